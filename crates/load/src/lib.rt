@@ -1,0 +1,2 @@
+// Load records: what each customer's meter measured, hour by hour, and which days may be reference days.
+pub mod loads;

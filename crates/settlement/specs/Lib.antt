@@ -1,0 +1,5 @@
+pub mod Kinds
+pub mod Hours
+pub mod Reduction
+pub mod Figures
+pub mod Settle
