@@ -98,10 +98,14 @@ abbrev pub clamped : ℤ → ℤ
 clamped z = maxZ lowest (minZ z highest)
 
 -- a baseline with the rounded third of the gap added; without a gap it is as it was
+abbrev pub brought-by : ℤ → Option ℤ → ℤ
+brought-by b None = b
+brought-by b (Some g) = clamped (b +ℤ rounded-third g)
+
+-- a cause passes
 abbrev pub adjusted : Result ℤ Cause → Option ℤ → Result ℤ Cause
 adjusted (Err cause) g = Err cause
-adjusted (Ok b) None = Ok b
-adjusted (Ok b) (Some g) = Ok (clamped (b +ℤ rounded-third g))
+adjusted (Ok b) g = Ok (brought-by b g)
 
 -- the source below, its baselines adjusted to the load before each day's first order; metered loads and profiles pass
 abbrev pub adjusted-source : List ℕ → SourceMeaning → SourceMeaning

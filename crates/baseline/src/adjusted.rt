@@ -5,7 +5,7 @@ ghost use Prim.Native.Nat.{_+_, _≤_};
 ghost use lib.IntN.{pos, negsuc, _+ℤ_, _-ℤ_};
 ghost use lib.Signed.{_≤ℤ_};
 ghost use Rattle.baseline.specs.Meaning.{Within-bounds};
-ghost use Rattle.baseline.specs.Sources.{start-on, Three-loads, rounded-third, clamped, adjusted-source};
+ghost use Rattle.baseline.specs.Sources.{start-on, Three-loads, rounded-third, clamped, gap-on, brought-by, adjusted-source};
 use crate::filed::HIGHEST;
 use crate::filed::LOWEST;
 use crate::source::BaselineSource;
@@ -63,6 +63,40 @@ fn adjusted_by(baseline: i32, gap: i32) -> i32
     (baseline + third_of(gap)).clamp(LOWEST, HIGHEST)
 }
 
+impl<S: BaselineSource> Adjusted<'_, S> {
+    // A customer's baseline of a day, adjusted if every load and profile before the day's first order exists.
+    fn brought(&self, customer: u32, day: u32, baseline: i32) -> i32
+        requires baseline { ⌜ Within-bounds baseline ⌝ }
+        ensures value { λ r. ⌜ r ≡ brought-by baseline (gap-on (meaning (now (self .entry) .below)) (now (now (self .entry) .starts)) customer day) ⌝ }
+        ensures bounded { λ r. ⌜ Within-bounds r ⌝ }
+    {
+        let start = start_of(self.starts, day);
+        if start < FIRST_ADJUSTED {
+            return baseline;
+        }
+        let Some(load_a) = self.below.metered(customer, day, start - 4) else {
+            return baseline;
+        };
+        let Some(load_b) = self.below.metered(customer, day, start - 3) else {
+            return baseline;
+        };
+        let Some(load_c) = self.below.metered(customer, day, start - 2) else {
+            return baseline;
+        };
+        let Ok(profile_a) = self.below.profile(customer, day, start, start - 4) else {
+            return baseline;
+        };
+        let Ok(profile_b) = self.below.profile(customer, day, start, start - 3) else {
+            return baseline;
+        };
+        let Ok(profile_c) = self.below.profile(customer, day, start, start - 2) else {
+            return baseline;
+        };
+        let gap = gap_between((load_a, load_b, load_c), (profile_a, profile_b, profile_c));
+        adjusted_by(baseline, gap)
+    }
+}
+
 pub impl<S: BaselineSource> BaselineSource for Adjusted<'_, S> as AdjustedBaselines {
     ghost meaning = { λ x. adjusted-source (now (x .starts)) (S·BaselineSource .meaning (x .below)) };
 
@@ -76,29 +110,6 @@ pub impl<S: BaselineSource> BaselineSource for Adjusted<'_, S> as AdjustedBaseli
 
     fn baseline(&self, customer: u32, day: u32, hour: u32) -> Result<i32, Cause> {
         let baseline = self.below.baseline(customer, day, hour)?;
-        let start = start_of(self.starts, day);
-        if start < FIRST_ADJUSTED {
-            return Ok(baseline);
-        }
-        let Some(load_a) = self.below.metered(customer, day, start - 4) else {
-            return Ok(baseline);
-        };
-        let Some(load_b) = self.below.metered(customer, day, start - 3) else {
-            return Ok(baseline);
-        };
-        let Some(load_c) = self.below.metered(customer, day, start - 2) else {
-            return Ok(baseline);
-        };
-        let Ok(profile_a) = self.below.profile(customer, day, start, start - 4) else {
-            return Ok(baseline);
-        };
-        let Ok(profile_b) = self.below.profile(customer, day, start, start - 3) else {
-            return Ok(baseline);
-        };
-        let Ok(profile_c) = self.below.profile(customer, day, start, start - 2) else {
-            return Ok(baseline);
-        };
-        let gap = gap_between((load_a, load_b, load_c), (profile_a, profile_b, profile_c));
-        Ok(adjusted_by(baseline, gap))
+        Ok(self.brought(customer, day, baseline))
     }
 }
