@@ -5,16 +5,19 @@ use crate::terms::Kind;
 use load::loads::DayClass;
 use load::loads::DayClassPartialEq;
 
-// The first and the last hour on workdays, and the hour between them in which no order is taken.
+// The first hour in which orders are taken on workdays.
 const WORKDAY_FROM: u32 = 10;
 
+// The last hour in which orders are taken on workdays.
 const WORKDAY_TO: u32 = 20;
 
+// The hour between them in which none is taken.
 const MIDDAY: u32 = 13;
 
-// The first and the last hour on holidays.
+// The first hour in which orders are taken on holidays.
 const HOLIDAY_FROM: u32 = 11;
 
+// The last hour in which orders are taken on holidays.
 const HOLIDAY_TO: u32 = 17;
 
 // Whether a resource of a kind takes an order on a day of a class, in a month, in an hour.

@@ -2,6 +2,7 @@
 ghost use mathlib.Core.Path.{_≡_};
 ghost use mathlib.Core.Bool.{true};
 ghost use Prim.Native.Nat.{_<_};
+ghost use lib.Dec.{eqb};
 ghost use Rattle.std.specs.Vec.{made};
 ghost use Rattle.settlement.specs.Bounds.{Within};
 ghost use Rattle.settlement.specs.Reduction.{cut, reduction, takes-part};
@@ -12,6 +13,13 @@ use refusal::NoFigure;
 
 // The mark of a customer that takes part.
 const TAKES_PART: u8 = 1;
+
+// Whether a mark says that its customer takes part.
+fn takes_part(mark: u8) -> bool
+    ensures value { λ r. ⌜ r ≡ eqb mark 1 ⌝ }
+{
+    mark == TAKES_PART
+}
 
 // By how much one customer's load lies below the baseline, in Wh; the baseline is asked first.
 fn cut_of<S: BaselineSource>(source: &S, customer: u32, slot: Slot) -> Result<i64, Cause>
@@ -40,7 +48,7 @@ pub(crate) fn scheduled_reduction<S: BaselineSource>(
         if place >= customers as usize {
             break;
         }
-        if *mark != TAKES_PART {
+        if !takes_part(*mark) {
             continue;
         }
         let customer = place as u32;

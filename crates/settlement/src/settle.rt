@@ -16,9 +16,10 @@ use baseline::source::BaselineSource;
 use refusal::NoFigure;
 use refusal::Refusal;
 
-// The greatest plan and the greatest order, in Wh.
+// The greatest plan, in Wh.
 const MAX_PLAN: u32 = 640_000_000;
 
+// The greatest order, in Wh.
 const MAX_ORDER: u32 = 500_000_000;
 
 // The greatest price, in hundredths of a won per kWh.

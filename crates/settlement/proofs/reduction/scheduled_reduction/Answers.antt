@@ -9,8 +9,8 @@ use Rattle.settlement.specs.Reduction.{takes-part}
 use Rattle.settlement.proofs.Reductions.{reduction-adds, reduction-skips, reduction-ends, reduction-rest}
 use Rattle.settlement.proofs.reduction.scheduled_reduction.Needs as need
 
-pub loop-place-again-then-mark-ne-TAKES-PART : need.loop-place-again-then-mark-ne-TAKES-PART
-loop-place-again-then-mark-ne-TAKES-PART g c =
+pub loop-place-again-then-not-takes-part : need.loop-place-again-then-not-takes-part
+loop-place-again-then-not-takes-part g c =
     let m = g .S·BaselineSource .meaning (c .args .source .now) in
     let out : takes-part (c .args .marks .now) (c .loop-place .place) ≡ false = grind (arith, tells) in
     (omega arith, reduction-skips m (takes-part (c .args .marks .now)) _ _ _ out ∙ c .loop-place .inv .1, (omega (arith, ints), omega (arith, ints)))
