@@ -1,13 +1,20 @@
 // The cases: worked figures, and both sides of every edge.
 use crate::steady::Steady;
+use crate::steady::SteadySource;
 use load::loads::DayClass;
 use refusal::Cause;
 use refusal::NoFigure;
 use refusal::Refusal;
+use refusal::RefusalDebug;
+use refusal::RefusalPartialEq;
 use settlement::hours::takes_order;
 use settlement::settle::settle_line;
 use settlement::terms::Kind;
+use settlement::terms::KindDebug;
+use settlement::terms::KindPartialEq;
 use settlement::terms::Line;
+use settlement::terms::LineDebug;
+use settlement::terms::LinePartialEq;
 use settlement::terms::Portfolio;
 use settlement::terms::Slot;
 use settlement::terms::Terms;
