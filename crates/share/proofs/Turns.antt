@@ -1,0 +1,78 @@
+-- One turn of the loop that shares an amount, and its end.
+use mathlib.Core.Path.{_≡_, refl, sym, ap, _∙_}
+use mathlib.Core.List.{List}
+use mathlib.Core.Bool.{false}
+use mathlib.Core.Logic.{⊎-elim, _≢_}
+use Prim.Native.Nat.{ℕ, _+_, _<_, _≤_, zero-le}
+use native.Mathlib.Omega.{arith}
+use lib.Dec.{ltb}
+use lib.IntN.{ℤ, pos, _-ℤ_, _*ℤ_}
+use lib.ListN.{length, take, getD, set, replicate, length-set}
+use lib.Seq.{getD-set-other}
+use lib.Signed.{_≤ℤ_}
+use mir.Syntax.{w64, w128}
+use mir.Val.{SFits, toZ, ofZ}
+use Rattle.std.proofs.shelf.Counted.{fill-by-all}
+use Rattle.std.proofs.shelf.Edits.{fill-by-more}
+use Rattle.std.proofs.shelf.Lists.{getD-past, getD-replicate}
+use Rattle.std.proofs.shelf.Signed.{ints, clamps}
+use Rattle.std.proofs.shelf.Sums.{sumBy-take-le}
+use Rattle.std.proofs.shelf.Tests.{cases-lt, le-ltb}
+use Rattle.std.specs.Numbers.{divEuclid, minZ, maxZ}
+use Rattle.std.specs.declared.option.Option.the-variants.{Some}
+use Rattle.std.specs.shelf.Lists.{sum}
+use Rattle.share.specs.Shares.{part, share, shared}
+use Rattle.share.proofs.Reach.{sum-more, weight-within}
+use Rattle.share.proofs.Sharing.{no-weight, share-within}
+
+-- the weight with one place more is at most the total
+pub weight-more : (ws : List ℕ) (k u t : ℕ) → u ≡ sum (take k ws) → t ≡ sum ws → (u + getD ws k 0 ≡ sum (take (k + 1) ws)) × (u + getD ws k 0 ≤ t)
+weight-more ws k u t e f = let m = sum-more ws k in let w = sumBy-take-le (λ x. x) ws (k + 1) in (omega arith, omega arith)
+
+pub part-from : (a b : ℤ) (ws : List ℕ) (k u t : ℕ) → b ≡ a → u ≡ sum (take k ws) → t ≡ sum ws → divEuclid (b *ℤ pos u) (pos t) ≡ part a ws k
+part-from a b ws k u t e f g = rw (e, f, g) refl
+
+between-fits : (a s : ℤ) → SFits w64 a → (minZ a (pos 0) ≤ℤ s) × (s ≤ℤ maxZ a (pos 0)) → SFits w64 s
+between-fits a s f h = omega (arith, ints, clamps)
+
+pub share-fits : (a : ℤ) (ws : List ℕ) (k : ℕ) → SFits w64 a → SFits w64 (share a ws k)
+share-fits a ws k f = between-fits a (share a ws k) f (share-within a ws k)
+
+-- the places before k have their shares, the rest have 0
+abbrev pub Shared-upto : ℤ → List ℕ → ℕ → List ℤ → Type 0
+Shared-upto a ws k xs = (length xs ≡ 16) × ((j : ℕ) → j < k → getD xs j (pos 0) ≡ share a ws j) × ((j : ℕ) → k ≤ j → getD xs j (pos 0) ≡ pos 0)
+
+pub shared-none : (a : ℤ) (ws : List ℕ) → Shared-upto a ws 0 (replicate 16 (pos 0))
+shared-none a ws = (refl, (λ j h. absurd (omega arith)), (λ j h. ⊎-elim (getD-replicate 16 j (pos 0) (pos 0)) (getD-past (replicate 16 (pos 0)) j (pos 0)) (cases-lt j 16)))
+
+pub shared-more : (a v : ℤ) (ws : List ℕ) (k : ℕ) (xs : List ℤ) → k < length ws → length ws ≤ 16 → v ≡ share a ws k → Shared-upto a ws k xs → Shared-upto a ws (k + 1) (set xs k v)
+shared-more a v ws k xs h m e s =
+    let l : k < length xs = omega (arith, s .0) in
+    rw e (simp length-set (s .0), fill-by-more (share a ws) xs k (pos 0) l (s .1), λ j g. let ne : j ≢ k = omega arith in rw getD-set-other (s .2 j (omega arith)))
+
+pub shared-all : (a : ℤ) (ws : List ℕ) (k : ℕ) (xs : List ℤ) → length ws ≤ k → length ws ≤ 16 → Shared-upto a ws k xs → Some xs ≡ shared a ws
+shared-all a ws k xs h m s =
+    let t : ltb 16 (length ws) ≡ false = le-ltb 16 (length ws) m in
+    rw t (ap Some (fill-by-all (share a ws) xs 16 (pos 0) (s .0) (λ j g. ⊎-elim (s .1 j) (λ p. s .2 j p ∙ sym (no-weight a ws j (getD-past ws j 0 (omega arith)))) (cases-lt j k))))
+
+-- where all weights are 0
+pub shared-nothing : (a : ℤ) (ws : List ℕ) (xs : List ℤ) → sum ws ≡ 0 → length ws ≤ 16 → Shared-upto a ws 0 xs → Some xs ≡ shared a ws
+shared-nothing a ws xs z m s =
+    let t : ltb 16 (length ws) ≡ false = le-ltb 16 (length ws) m in
+    rw t (ap Some (fill-by-all (share a ws) xs 16 (pos 0) (s .0) (λ j g. s .2 j zero-le ∙ sym (no-weight a ws j (let w = weight-within ws j in omega arith)))))
+
+difference : (a y z : ℤ) (ws : List ℕ) (k : ℕ) → y ≡ part a ws (k + 1) → z ≡ part a ws k → y -ℤ z ≡ share a ws k
+difference a y z ws k e f = cc
+
+small-fits : (d s : ℤ) → d ≡ s → SFits w64 s → SFits w64 (toZ w128 (ofZ w128 d))
+small-fits d s e f = omega (arith, ints)
+
+small-is : (d s : ℤ) → d ≡ s → SFits w64 s → toZ w64 (ofZ w64 (toZ w128 (ofZ w128 d))) ≡ s
+small-is d s e f = omega (arith, ints)
+
+-- what a turn writes fits, and is the share
+pub written-fits : (a y z : ℤ) (ws : List ℕ) (k : ℕ) → SFits w64 a → y ≡ part a ws (k + 1) → z ≡ part a ws k → SFits w64 (toZ w128 (ofZ w128 (y -ℤ z)))
+written-fits a y z ws k f e g = small-fits _ _ (difference a y z ws k e g) (share-fits a ws k f)
+
+pub written-is : (a y z : ℤ) (ws : List ℕ) (k : ℕ) → SFits w64 a → y ≡ part a ws (k + 1) → z ≡ part a ws k → toZ w64 (ofZ w64 (toZ w128 (ofZ w128 (y -ℤ z)))) ≡ share a ws k
+written-is a y z ws k f e g = small-is _ _ (difference a y z ws k e g) (share-fits a ws k f)
