@@ -2,7 +2,7 @@
 use mathlib.Core.Path.{_≡_, refl, sym, ap, _∙_}
 use mathlib.Core.Logic.{_≢_, ⊎-elim}
 use mathlib.Core.List.{List, [], _∷_}
-use Prim.Native.Nat.{ℕ, zero, suc, _+_, _<_, _≤_, min}
+use Prim.Native.Nat.{ℕ, zero, suc, _+_, _-_, _<_, _≤_, min}
 use native.Mathlib.Numerals.{add-one}
 use native.Mathlib.Omega.{arith}
 use lib.ListN.{length, getD, set, length-set}
@@ -56,3 +56,19 @@ filled-past xs at n (suc m) f h =
     let e : n + suc m ≡ suc (n + m) = omega arith in
     let long : length (filled xs at (n + m) f) ≤ at + (n + m) = omega (arith, length-filled xs at (n + m) f) in
     ap (λ k. filled xs at k f) e ∙ set-past (filled xs at (n + m) f) (at + (n + m)) (f (n + m)) long ∙ filled-past xs at n m f h
+
+-- a loop's turn: ys was filled up to k, and zs is ys with the next line
+pub filled-turn : {X : Type 0} (xs ys zs : List X) (at k : ℕ) (f : ℕ → X) (v : X) → ys ≡ filled xs at k f → v ≡ f k → zs ≡ set ys (at + k) v → zs ≡ filled xs at (k + 1) f
+filled-turn xs ys zs at k f v p q r = let m = filled-more xs at k f in cc
+
+-- as many lines as the list has places, or as are asked for
+pub filled-all : {X : Type 0} (xs : List X) (at n k : ℕ) (f : ℕ → X) → k ≤ n → min n (length xs) ≤ k → filled xs at k f ≡ filled xs at n f
+filled-all xs at n k f h m = ⊎-elim short whole (cases-lt k n)
+  where
+    short : k < n → filled xs at k f ≡ filled xs at n f
+    short l =
+        let e : k + (n - k) ≡ n = omega arith in
+        sym (filled-past xs at k (n - k) f (omega arith)) ∙ ap (λ j. filled xs at j f) e
+
+    whole : n ≤ k → filled xs at k f ≡ filled xs at n f
+    whole l = let e : k ≡ n = omega arith in ap (λ j. filled xs at j f) e
