@@ -16,7 +16,7 @@ pub const PLACES: usize = 16;
 
 // What the weights come to.
 fn total_of(weights: &[u32]) -> u64
-    requires { ⌜ length (now weights) ≤ 16 ⌝ }
+    requires few { ⌜ length (now weights) ≤ 16 ⌝ }
     ensures value { λ r. ⌜ r ≡ sum (now (weights .entry)) ⌝ }
     ensures bounded { λ r. ⌜ r < 2 ^ 36 ⌝ }
 {
