@@ -15,7 +15,7 @@ use Rattle.std.proofs.shelf.Tests.{cases-lt, le-ltb}
 use Rattle.std.specs.declared.option.Option.the-variants.{Some}
 use Rattle.won.proofs.Sums.{total-same}
 use Rattle.share.specs.Shares.{share, shares, shared}
-use Rattle.share.specs.Laws.{Add-up, Within-a-won, Near, Weightless-none, Between-nought-and, Within-amount, No-further}
+use Rattle.share.specs.Laws.{Each-share, Add-up, Within-a-won, Near, Weightless-none, Between-nought-and, Within-amount, No-further}
 use Rattle.share.proofs.Weights.{weight-all}
 use Rattle.share.proofs.Sharing.{shares-add-up, share-near, no-weight, share-within}
 
@@ -41,15 +41,17 @@ no-further a s h = omega (arith, ints, clamps)
 -- sixteen numbers that are the shares are what sharing answers, and keep its laws
 pub record Shared-out (a : ℤ) (ws : List ℕ) (xs : List ℤ) : Type 0 where
   pub value : Some xs ≡ shared a ws
+  pub each : Each-share a ws xs
   pub adds : Add-up a ws xs
   pub near : Near a ws xs
   pub none : Weightless-none ws xs
   pub within : Within-amount a xs
   pub bounded : No-further a xs
 
-pub shared-out : (a : ℤ) (ws : List ℕ) (xs : List ℤ) → length ws ≤ 16 → length xs ≡ 16 → ((k : ℕ) → getD xs k (pos 0) ≡ share a ws k) → Shared-out a ws xs
+pub shared-out : (a : ℤ) (ws : List ℕ) (xs : List ℤ) → length ws ≤ 16 → length xs ≡ 16 → Each-share a ws xs → Shared-out a ws xs
 shared-out a ws xs m l e = record {
   value = ap Some (fill-by-all (share a ws) xs 16 (pos 0) l (λ k _. e k)) ∙ sym (shared-some a ws m);
+  each = e;
   adds = λ p. total-same 16 _ _ (λ k _. e k) ∙ shares-add-up a ws 16 p (weight-all ws 16 m);
   near = λ p k. subst (Within-a-won a ws k) (sym (e k)) (share-near a ws k p);
   none = λ k z. e k ∙ no-weight a ws k z;
