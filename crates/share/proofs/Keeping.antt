@@ -12,6 +12,8 @@ use Rattle.std.proofs.shelf.Counted.{fill-by-all, getD-map-counting, length-map
 use Rattle.std.proofs.shelf.Lists.{getD-past}
 use Rattle.std.proofs.shelf.Signed.{ints, clamps}
 use Rattle.std.proofs.shelf.Tests.{cases-lt, le-ltb}
+use Rattle.std.specs.Slices.{found}
+use Rattle.std.specs.declared.option.Option.{Option}
 use Rattle.std.specs.declared.option.Option.the-variants.{Some}
 use Rattle.won.proofs.Sums.{total-same}
 use Rattle.share.specs.Shares.{share, shares, shared}
@@ -61,3 +63,7 @@ shared-out a ws xs m l e = record {
   where
     between : (k : ℕ) → Between-nought-and a (getD xs k (pos 0))
     between k = subst (Between-nought-and a) (sym (e k)) (share-within a ws k)
+
+-- for a caller: what a clause of sharing says of the amount b as it was passed holds of the amount a and the shares xs
+pub taken : (P : ℤ → List ℤ → Type 0) (a b : ℤ) (o : Option (List ℤ)) (xs : List ℤ) → b ≡ a → o ≡ Some xs → found o (P b) → P a xs
+taken P a b o xs e f h = subst (λ z. P z xs) e (subst (λ y. found y (P b)) f h)
