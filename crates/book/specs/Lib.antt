@@ -1,0 +1,9 @@
+pub mod Hours
+pub mod State
+pub mod Telling
+pub mod Calls
+pub mod Opening
+pub mod Runs
+pub mod Reconciled
+pub mod Readings
+pub mod Seen

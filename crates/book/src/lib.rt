@@ -1,0 +1,7 @@
+// The month's book: its hours, its calls over two lent lists of lines, and what they add up to.
+pub mod book;
+pub mod energies;
+pub mod hour;
+pub mod reconcile;
+pub mod register;
+pub mod slip;
