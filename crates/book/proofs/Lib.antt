@@ -1,0 +1,7 @@
+mod Places
+mod Purchases
+mod Refused
+mod Sound
+mod Slips
+mod History
+mod Balance
