@@ -1,24 +1,29 @@
--- The laws of sharing, from those of `reach`.
+-- The laws of sharing, over the definitions.
 use mathlib.Core.Path.{_≡_, refl, ap, sym, subst, _∙_}
 use mathlib.Core.List.{List}
 use mathlib.Core.Logic.{⊎-elim}
 use Prim.Native.Nat.{ℕ, zero, suc, _+_, _<_, _≤_, zero-le}
-use native.Mathlib.Nat.{eq-zero-or-pos, mul-le-mul-left}
+use native.Mathlib.Nat.{eq-zero-or-pos, mul-le-mul-left, zero-div}
 use native.Mathlib.Numerals.{add-one}
 use native.Mathlib.Omega.{arith}
-use lib.IntN.{ℤ, pos, _+ℤ_, _-ℤ_, _*ℤ_, negsuc, +ℤ-idr, +ℤ-invr}
+use lib.IntN.{ℤ, pos, _+ℤ_, _-ℤ_, _*ℤ_, negsuc, +ℤ-idr, *ℤ-zero}
 use lib.ListN.{getD}
 use lib.Signed.{_<ℤ_, _≤ℤ_}
-use Rattle.std.proofs.shelf.Counted.{map-counting-more}
 use Rattle.std.proofs.shelf.Signed.{ints, clamps}
 use Rattle.std.specs.Numbers.{divEuclid, minZ, maxZ}
 use Rattle.std.specs.shelf.Lists.{sum}
-use Rattle.won.specs.Sums.{sum-of}
-use Rattle.won.proofs.Sums.{sum-push}
+use Rattle.won.specs.Sums.{total-to}
 use Rattle.won.proofs.Floors.{mul-add, sub-mul, floor-low, floor-high, floor-grows, floor-shift}
-use Rattle.share.specs.Shares.{reach, part, share, shares}
-use Rattle.share.specs.Laws.{Shares-add-up, Less-than-a-won-off, No-weight-no-share, Within-the-amount}
-use Rattle.share.proofs.Reach.{reach-more, reach-all, weight-within}
+use Rattle.share.specs.Shares.{weight-before, part, share}
+use Rattle.share.specs.Laws.{Within-a-won, Between-nought-and}
+use Rattle.share.proofs.Weights.{weight-more, weight-all, weight-below, weight-within}
+
+-- the weight before a place, as an integer
+abbrev reach : List ℕ → ℕ → ℤ
+reach ws k = pos (weight-before ws k)
+
+reach-more : (ws : List ℕ) (k : ℕ) → reach ws (k + 1) ≡ reach ws k +ℤ pos (getD ws k 0)
+reach-more ws k = ap pos (weight-more ws k)
 
 -- what falls on a stretch of weight w that begins at x
 abbrev stretch : ℤ → ℤ → ℕ → ℕ → ℤ
@@ -36,36 +41,43 @@ near a x w t p =
     off _ _ _ _ _ _ (pos t) (sub-mul (divEuclid (a *ℤ (x +ℤ pos w)) (pos t)) (divEuclid (a *ℤ x) (pos t)) (pos t)) (mul-add a x (pos w))
     (floor-low (a *ℤ (x +ℤ pos w)) t p) (floor-high (a *ℤ (x +ℤ pos w)) t p) (floor-low (a *ℤ x) t p) (floor-high (a *ℤ x) t p)
 
-pub share-near : Less-than-a-won-off
+-- a share is less than one won from amount × weight ÷ total
+pub share-near : (a : ℤ) (ws : List ℕ) (k : ℕ) → 0 < sum ws → Within-a-won a ws k (share a ws k)
 share-near a ws k p = rw (share-is a ws k) (near a (reach ws k) (getD ws k 0) (sum ws) p)
 
-pub no-weight : No-weight-no-share
+-- no weight, no share
+pub no-weight : (a : ℤ) (ws : List ℕ) (k : ℕ) → getD ws k 0 ≡ 0 → share a ws k ≡ pos 0
 no-weight a ws k e =
     let r : reach ws (k + 1) ≡ reach ws k = let m = reach-more ws k in omega (arith, ints) in
     let f : part a ws (k + 1) ≡ part a ws k = ap (λ z. divEuclid (a *ℤ z) (pos (sum ws))) r in
     omega (arith, ints)
 
 -- all weight together brings the amount
+floor-whole : (a : ℤ) (t : ℕ) → 0 < t → divEuclid (a *ℤ pos t) (pos t) ≡ a
+floor-whole a t p =
+    let s = floor-shift (pos 0) a t p in
+    let e : pos 0 +ℤ a *ℤ pos t ≡ a *ℤ pos t = omega (arith, ints) in
+    let z : divEuclid (pos 0) (pos t) ≡ pos 0 = ap pos (zero-div t) in
+    sym (ap (λ y. divEuclid y (pos t)) e) ∙ (s ∙ (let r : divEuclid (pos 0) (pos t) +ℤ a ≡ a = omega (arith, ints) in r))
+
 whole : (a x : ℤ) (t : ℕ) → 0 < t → divEuclid (a *ℤ (x +ℤ pos t)) (pos t) ≡ divEuclid (a *ℤ x) (pos t) +ℤ a
 whole a x t p = ap (λ z. divEuclid z (pos t)) (mul-add a x (pos t)) ∙ floor-shift (a *ℤ x) a t p
 
-one-more : (s s′ d b c p : ℤ) → s′ ≡ s +ℤ d → d ≡ c -ℤ b → s ≡ b -ℤ p → s′ ≡ c -ℤ p
-one-more s s′ d b c p e f g = omega (arith, ints)
+one-more : (s p q : ℤ) → s ≡ p → s +ℤ (q -ℤ p) ≡ q
+one-more s p q e = omega (arith, ints)
 
-telescope : (a : ℤ) (ws : List ℕ) (n : ℕ) → sum-of (λ x. x) (shares a ws n) ≡ part a ws n -ℤ part a ws 0
-telescope a ws zero = sym (+ℤ-invr (part a ws 0))
-telescope a ws (suc n) =
-    let m = ap (sum-of (λ x. x)) (map-counting-more (share a ws) 0 n n (omega arith)) in
-    let s = sum-push (λ x. x) (shares a ws n) (share a ws n) in
-    let P : ℕ → Type 0 = λ k. sum-of (λ x. x) (shares a ws k) ≡ part a ws k -ℤ part a ws 0 in
-    subst P (add-one n) (one-more _ _ _ (part a ws n) (part a ws (n + 1)) (part a ws 0) (m ∙ s) refl (telescope a ws n))
+-- the shares of the first n places come to the part that falls on them
+pub total-shares : (a : ℤ) (ws : List ℕ) (n : ℕ) → total-to n (share a ws) ≡ part a ws n
+total-shares a ws zero = sym (ap (λ z. divEuclid z (pos (sum ws))) (*ℤ-zero a) ∙ ap pos (zero-div (sum ws)))
+total-shares a ws (suc n) = one-more (total-to n (share a ws)) (part a ws n) (part a ws (n + 1)) (total-shares a ws n) ∙ ap (part a ws) (add-one n)
 
-all-in : (s b c d a : ℤ) → s ≡ b -ℤ c → b ≡ d → d ≡ c +ℤ a → s ≡ a
-all-in s b c d a e f g = omega (arith, ints)
+-- the shares of n places that hold all weight add up to the amount
+pub shares-add-up : (a : ℤ) (ws : List ℕ) (n : ℕ) → 0 < sum ws → weight-before ws n ≡ sum ws → total-to n (share a ws) ≡ a
+shares-add-up a ws n p h = total-shares a ws n ∙ (ap (λ w. divEuclid (a *ℤ pos w) (pos (sum ws))) h ∙ floor-whole a (sum ws) p)
 
-pub shares-add-up : Shares-add-up
-shares-add-up a ws n p h =
-    all-in _ _ (part a ws 0) _ a (telescope a ws n) (ap (λ z. divEuclid (a *ℤ z) (pos (sum ws))) (reach-all ws n h)) (whole a (reach ws 0) (sum ws) p)
+-- no weight stands at n and behind it
+pub shares-below-add-up : (a : ℤ) (ws : List ℕ) (n : ℕ) → 0 < sum ws → ((k : ℕ) → n ≤ k → getD ws k 0 ≡ 0) → total-to n (share a ws) ≡ a
+shares-below-add-up a ws n p h = shares-add-up a ws n p (weight-below ws n h)
 
 -- what falls on the weight up to x + u
 abbrev upto : ℤ → ℤ → ℕ → ℕ → ℤ
@@ -101,11 +113,12 @@ within (negsuc n) x w t p h =
 nought-within : (a s : ℤ) → s ≡ pos 0 → (minZ a (pos 0) ≤ℤ s) × (s ≤ℤ maxZ a (pos 0))
 nought-within a s e = (omega (arith, ints, clamps), omega (arith, ints, clamps))
 
-pub share-within : Within-the-amount
+-- a share lies between nought and the amount
+pub share-within : (a : ℤ) (ws : List ℕ) (k : ℕ) → Between-nought-and a (share a ws k)
 share-within a ws k = ⊎-elim empty some (eq-zero-or-pos (sum ws))
   where
-    empty : sum ws ≡ 0 → (minZ a (pos 0) ≤ℤ share a ws k) × (share a ws k ≤ℤ maxZ a (pos 0))
+    empty : sum ws ≡ 0 → Between-nought-and a (share a ws k)
     empty e = nought-within a _ (no-weight a ws k (let h = weight-within ws k in omega arith))
 
-    some : 0 < sum ws → (minZ a (pos 0) ≤ℤ share a ws k) × (share a ws k ≤ℤ maxZ a (pos 0))
+    some : 0 < sum ws → Between-nought-and a (share a ws k)
     some p = rw (share-is a ws k) (within a (reach ws k) (getD ws k 0) (sum ws) p (weight-within ws k))

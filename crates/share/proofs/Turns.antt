@@ -1,33 +1,29 @@
 -- One turn of the loop that shares an amount, and its end.
 use mathlib.Core.Path.{_≡_, refl, sym, ap, _∙_}
 use mathlib.Core.List.{List}
-use mathlib.Core.Bool.{false}
 use mathlib.Core.Logic.{⊎-elim, _≢_}
 use Prim.Native.Nat.{ℕ, _+_, _<_, _≤_, zero-le}
 use native.Mathlib.Omega.{arith}
-use lib.Dec.{ltb}
 use lib.IntN.{ℤ, pos, _-ℤ_, _*ℤ_}
 use lib.ListN.{length, take, getD, set, replicate, length-set}
 use lib.Seq.{getD-set-other}
 use lib.Signed.{_≤ℤ_}
 use mir.Syntax.{w64, w128}
 use mir.Val.{SFits, toZ, ofZ}
-use Rattle.std.proofs.shelf.Counted.{fill-by-all}
 use Rattle.std.proofs.shelf.Edits.{fill-by-more}
 use Rattle.std.proofs.shelf.Lists.{getD-past, getD-replicate}
 use Rattle.std.proofs.shelf.Signed.{ints, clamps}
 use Rattle.std.proofs.shelf.Sums.{sumBy-take-le}
-use Rattle.std.proofs.shelf.Tests.{cases-lt, le-ltb}
+use Rattle.std.proofs.shelf.Tests.{cases-lt}
 use Rattle.std.specs.Numbers.{divEuclid, minZ, maxZ}
-use Rattle.std.specs.declared.option.Option.the-variants.{Some}
 use Rattle.std.specs.shelf.Lists.{sum}
-use Rattle.share.specs.Shares.{part, share, shared}
-use Rattle.share.proofs.Reach.{sum-more, weight-within}
+use Rattle.share.specs.Shares.{part, share}
+use Rattle.share.proofs.Weights.{weight-more, weight-within}
 use Rattle.share.proofs.Sharing.{no-weight, share-within}
 
 -- the weight with one place more is at most the total
-pub weight-more : (ws : List ℕ) (k u t : ℕ) → u ≡ sum (take k ws) → t ≡ sum ws → (u + getD ws k 0 ≡ sum (take (k + 1) ws)) × (u + getD ws k 0 ≤ t)
-weight-more ws k u t e f = let m = sum-more ws k in let w = sumBy-take-le (λ x. x) ws (k + 1) in (omega arith, omega arith)
+pub weight-turn : (ws : List ℕ) (k u t : ℕ) → u ≡ sum (take k ws) → t ≡ sum ws → (u + getD ws k 0 ≡ sum (take (k + 1) ws)) × (u + getD ws k 0 ≤ t)
+weight-turn ws k u t e f = let m = weight-more ws k in let w = sumBy-take-le (λ x. x) ws (k + 1) in (omega arith, omega arith)
 
 pub part-from : (a b : ℤ) (ws : List ℕ) (k u t : ℕ) → b ≡ a → u ≡ sum (take k ws) → t ≡ sum ws → divEuclid (b *ℤ pos u) (pos t) ≡ part a ws k
 part-from a b ws k u t e f g = rw (e, f, g) refl
@@ -50,16 +46,13 @@ shared-more a v ws k xs h m e s =
     let l : k < length xs = omega (arith, s .0) in
     rw e (simp length-set (s .0), fill-by-more (share a ws) xs k (pos 0) l (s .1), λ j g. let ne : j ≢ k = omega arith in rw getD-set-other (s .2 j (omega arith)))
 
-pub shared-all : (a : ℤ) (ws : List ℕ) (k : ℕ) (xs : List ℤ) → length ws ≤ k → length ws ≤ 16 → Shared-upto a ws k xs → Some xs ≡ shared a ws
-shared-all a ws k xs h m s =
-    let t : ltb 16 (length ws) ≡ false = le-ltb 16 (length ws) m in
-    rw t (ap Some (fill-by-all (share a ws) xs 16 (pos 0) (s .0) (λ j g. ⊎-elim (s .1 j) (λ p. s .2 j p ∙ sym (no-weight a ws j (getD-past ws j 0 (omega arith)))) (cases-lt j k))))
+-- all places have their shares
+pub each-share : (a : ℤ) (ws : List ℕ) (k : ℕ) (xs : List ℤ) → length ws ≤ k → Shared-upto a ws k xs → (j : ℕ) → getD xs j (pos 0) ≡ share a ws j
+each-share a ws k xs h s j = ⊎-elim (s .1 j) (λ p. s .2 j p ∙ sym (no-weight a ws j (getD-past ws j 0 (omega arith)))) (cases-lt j k)
 
 -- where all weights are 0
-pub shared-nothing : (a : ℤ) (ws : List ℕ) (xs : List ℤ) → sum ws ≡ 0 → length ws ≤ 16 → Shared-upto a ws 0 xs → Some xs ≡ shared a ws
-shared-nothing a ws xs z m s =
-    let t : ltb 16 (length ws) ≡ false = le-ltb 16 (length ws) m in
-    rw t (ap Some (fill-by-all (share a ws) xs 16 (pos 0) (s .0) (λ j g. s .2 j zero-le ∙ sym (no-weight a ws j (let w = weight-within ws j in omega arith)))))
+pub each-nothing : (a : ℤ) (ws : List ℕ) (xs : List ℤ) → sum ws ≡ 0 → Shared-upto a ws 0 xs → (j : ℕ) → getD xs j (pos 0) ≡ share a ws j
+each-nothing a ws xs z s j = s .2 j zero-le ∙ sym (no-weight a ws j (let w = weight-within ws j in omega arith))
 
 difference : (a y z : ℤ) (ws : List ℕ) (k : ℕ) → y ≡ part a ws (k + 1) → z ≡ part a ws k → y -ℤ z ≡ share a ws k
 difference a y z ws k e f = cc

@@ -14,4 +14,4 @@ pub returns : need.returns
 returns c =
     let fits : SFits w128 (c .div-euclid .result) = search needs in
     let p = product-is _ _ (c .args .amount) (c .args .upto) (widened (c .args .amount) (c .fits .amount)) (counted (c .args .upto) (c .fits .upto .fits)) (c .fits .amount) (c .pre .small) in
-    toZ-ofZ w128 (c .div-euclid .result) fits ∙ (c .div-euclid .ensures ∙ quotient-is _ _ _ _ p (counted (c .args .total) (c .fits .total .fits)))
+    record { value = toZ-ofZ w128 (c .div-euclid .result) fits ∙ (c .div-euclid .ensures ∙ quotient-is _ _ _ _ p (counted (c .args .total) (c .fits .total .fits))) }
