@@ -4,6 +4,8 @@ use mathlib.Core.Bool.{Bool, true, false, not}
 use mathlib.Core.List.{List, [], _∷_}
 use Rattle.std.specs.declared.option.Option.{Option}
 use Rattle.std.specs.declared.option.Option.the-variants.{Some, None}
+use Rattle.std.specs.declared.result.Result.{Result}
+use Rattle.std.specs.declared.result.Result.the-variants.{Ok, Err}
 use Rattle.refusal.specs.declared.Refusal.{Refusal}
 use Rattle.refusal.specs.declared.Refusal.the-variants.{HourAllotted, HourInCorrection, NoEnergies, HourNotAllotted, WrongSlip}
 use Rattle.refusal.specs.Tests.{refused-if, first-of}
@@ -88,3 +90,12 @@ hour-by (Some r) new old = old
 
 abbrev pub hour-after : {E : Type 0} → Step → Hour E → Hour E
 hour-after call x = hour-by (step-refusal call x) (stepped call x) x
+
+-- what a step answers: the hour's energies, or why it is refused
+abbrev pub energies-or : {E : Type 0} → Option E → Result E Refusal
+energies-or None = Err NoEnergies
+energies-or (Some e) = Ok e
+
+abbrev pub step-answer : {E : Type 0} → Option Refusal → Hour E → Result E Refusal
+step-answer None x = energies-or (energies-in x)
+step-answer (Some refusal) x = Err refusal

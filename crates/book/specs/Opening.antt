@@ -79,6 +79,19 @@ register-of o = record {
   buyers = o .buyers;
 }
 
+-- the register with other resources
+abbrev pub with-resources : Register → List Resource → Register
+with-resources s resources = record {
+  number = s .number;
+  month = s .month;
+  days = s .days;
+  classes = s .classes;
+  «first_day» = s .«first_day»;
+  resources = resources;
+  enrolled = s .enrolled;
+  buyers = s .buyers;
+}
+
 -- a book is opened exactly if its month is not 0
 abbrev pub is-opened : Register → Bool
 is-opened s = not (eqb (s .month) 0)

@@ -3,3 +3,4 @@ pub mod Hours
 pub mod Reduction
 pub mod Figures
 pub mod Settle
+pub mod Bounds
