@@ -4,4 +4,7 @@ mod Refused
 mod Sound
 mod Slips
 mod History
+mod Decided
 mod Balance
+mod Alls
+mod Entered

@@ -1,4 +1,5 @@
 -- The values of the code as the definitions see them.
+use denote.Ref.{now}
 use Prim.Native.Nat.{ℕ}
 use mathlib.Core.Bool.{false}
 use mathlib.Core.List.{List}
@@ -10,10 +11,12 @@ use Rattle.refusal.specs.declared.Refusal.{Refusal}
 use Rattle.table.specs.declared.lines.ResourceLine.{ResourceLine}
 use Rattle.table.specs.declared.lines.BuyerLine.{BuyerLine}
 use Rattle.book.specs.declared.book.Book.{Book}
+use Rattle.book.specs.declared.open.Opening as code
 use Rattle.book.specs.declared.slip.Slip as paper
 use Rattle.book.specs.declared.slip.RefusedSlip.{RefusedSlip}
 use Rattle.book.specs.State.{State}
 use Rattle.book.specs.Calls.{Slip}
+use Rattle.book.specs.Opening.{Opening}
 
 -- a book and the two lists lent to a call, as one
 abbrev pub seen : Book → List ResourceLine → List BuyerLine → State
@@ -36,3 +39,7 @@ granted-or (Some refusal) x = Err refusal
 abbrev pub back-or : Option Refusal → paper.Slip → Result (Unit {0}) RefusedSlip
 back-or None slip = Ok tt
 back-or (Some refusal) slip = Err (record { refusal = refusal; slip = slip })
+
+-- what an opening says
+abbrev pub told-by : code.Opening → Opening
+told-by o = record { number = o .number; month = o .month; classes = now (o .classes); first-day = o .«first_day»; buyers = o .buyers; resources = now (o .resources) }

@@ -2,6 +2,9 @@
 pub mod book;
 pub mod energies;
 pub mod hour;
+pub mod open;
+mod place;
 pub mod reconcile;
 pub mod register;
+mod rows;
 pub mod slip;

@@ -74,7 +74,7 @@ impl Register {
 
     // Lends the record at a place to be entered.
     fn enter(&mut self, place: usize, registration: Registration)
-        requires { ⌜ place < length (now self .resources) ⌝ }
+        requires { ⌜ place < 16 ⌝ }
         ensures value { λ _. ⌜ now (self .exit) ≡ with-resources (now (self .entry)) (set (now (self .entry) .resources) place (resource-of registration)) ⌝ }
     {
         self.resources[place].enter(registration);
