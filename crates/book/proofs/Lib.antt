@@ -5,6 +5,7 @@ mod Sound
 mod Slips
 mod History
 mod Decided
+mod Changed
 mod Balance
 mod Alls
 mod Entered
