@@ -6,6 +6,11 @@ mod Slips
 mod History
 mod Decided
 mod Changed
+mod Charged
+mod Stepped
+mod Telling
+pub mod Finishing
+mod MonthSums
 mod Balance
 mod Alls
 mod Entered

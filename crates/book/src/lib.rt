@@ -1,4 +1,5 @@
 // The month's book: its hours, its calls over two lent lists of lines, and what they add up to.
+mod allot;
 pub mod book;
 pub mod energies;
 pub mod hour;
@@ -10,4 +11,5 @@ pub mod register;
 mod rows;
 mod settle;
 pub mod slip;
+mod tell;
 mod withdraw;
