@@ -1,0 +1,10 @@
+pub mod Hours
+pub mod State
+pub mod Telling
+pub mod Calls
+pub mod Opening
+pub mod Runs
+pub mod Reconciled
+pub mod Bounds
+pub mod Readings
+pub mod Seen
