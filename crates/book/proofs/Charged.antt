@@ -50,5 +50,5 @@ cell-is a ws k xs few fits e =
     toZ-ofZ w64 (getD xs k (pos 0)) (subst (SFits w64) (sym (ap (λ l. getD l k (pos 0)) same ∙ share-at a ws 16 k few)) (share-fits a ws k fits))
 
 -- a row's sum as the code has it
-pub narrowed : (v : ℤ) (n : ℕ) → n ≤ 16 → natAbs v ≤ n * 2 ^ 32 → toZ w64 (ofZ w64 (toZ w128 (ofZ w128 v))) ≡ v
-narrowed v n few h = omega (arith, ints)
+pub narrowed : (v : ℤ) → natAbs v ≤ 2 ^ 36 → toZ w64 (ofZ w64 (toZ w128 (ofZ w128 v))) ≡ v
+narrowed v h = omega (arith, ints)
