@@ -33,7 +33,12 @@ pub fn correct<S: BaselineSource>(
         Ok(()) => {}
         Err(_refused) => unreachable(),
     }
-    Ok([number_of(told), number_of(settled), number_of(withdrawn), number_of(again)])
+    Ok([
+        number_of(told),
+        number_of(settled),
+        number_of(withdrawn),
+        number_of(again),
+    ])
 }
 
 // Offers the slip of one book to another, which refuses it, and finishes with it at home; the other book's refusal, 0 for none.

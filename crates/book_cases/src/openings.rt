@@ -1,9 +1,9 @@
 // Openings at their edges.
+use crate::corrections::number_of;
 use book::book::Book;
 use book::book::BookPartialEq;
 use book::open::Opening;
 use book::register::Registration;
-use crate::corrections::number_of;
 use settlement::terms::Line;
 use std::test::*;
 use table::lines::BuyerLine;
@@ -67,50 +67,179 @@ fn tried(opening: Opening) -> u32 {
 fn months_and_classes() -> Result<(), Fail> {
     let sound = [SOUND];
     check_eq(tried(may(&[0; 31], &sound)), 0)?;
-    check_eq(tried(Opening { month: 0, ..may(&[0; 31], &sound) }), 1)?;
-    check_eq(tried(Opening { month: 13, ..may(&[0; 31], &sound) }), 1)?;
-    check_eq(tried(Opening { month: 12, ..may(&[1; 31], &sound) }), 0)?;
+    check_eq(
+        tried(Opening {
+            month: 0,
+            ..may(&[0; 31], &sound)
+        }),
+        1,
+    )?;
+    check_eq(
+        tried(Opening {
+            month: 13,
+            ..may(&[0; 31], &sound)
+        }),
+        1,
+    )?;
+    check_eq(
+        tried(Opening {
+            month: 12,
+            ..may(&[1; 31], &sound)
+        }),
+        0,
+    )?;
     check_eq(tried(may(&[0; 30], &sound)), 2)?;
     check_eq(tried(may(&[2; 31], &sound)), 2)?;
-    check_eq(tried(Opening { month: 4, ..may(&[0; 30], &sound) }), 0)?;
-    check_eq(tried(Opening { month: 4, ..may(&[0; 31], &sound) }), 2)?;
+    check_eq(
+        tried(Opening {
+            month: 4,
+            ..may(&[0; 30], &sound)
+        }),
+        0,
+    )?;
+    check_eq(
+        tried(Opening {
+            month: 4,
+            ..may(&[0; 31], &sound)
+        }),
+        2,
+    )?;
     Ok(())
 }
 
 #[test]
 fn february() -> Result<(), Fail> {
     let sound = [SOUND];
-    check_eq(tried(Opening { month: 2, ..may(&[0; 27], &sound) }), 2)?;
-    check_eq(tried(Opening { month: 2, ..may(&[0; 28], &sound) }), 0)?;
-    check_eq(tried(Opening { month: 2, ..may(&[0; 29], &sound) }), 0)?;
-    check_eq(tried(Opening { month: 2, ..may(&[0; 30], &sound) }), 2)?;
+    check_eq(
+        tried(Opening {
+            month: 2,
+            ..may(&[0; 27], &sound)
+        }),
+        2,
+    )?;
+    check_eq(
+        tried(Opening {
+            month: 2,
+            ..may(&[0; 28], &sound)
+        }),
+        0,
+    )?;
+    check_eq(
+        tried(Opening {
+            month: 2,
+            ..may(&[0; 29], &sound)
+        }),
+        0,
+    )?;
+    check_eq(
+        tried(Opening {
+            month: 2,
+            ..may(&[0; 30], &sound)
+        }),
+        2,
+    )?;
     Ok(())
 }
 
 #[test]
 fn days_resources_and_buyers() -> Result<(), Fail> {
     let sound = [SOUND];
-    check_eq(tried(Opening { first_day: 65, ..may(&[0; 31], &sound) }), 3)?;
+    check_eq(
+        tried(Opening {
+            first_day: 65,
+            ..may(&[0; 31], &sound)
+        }),
+        3,
+    )?;
     check_eq(tried(may(&[0; 31], &[])), 4)?;
     check_eq(tried(may(&[0; 31], &[SOUND; 17])), 4)?;
     check_eq(tried(may(&[0; 31], &[SOUND; 16])), 7)?;
     check_eq(tried(may(&[0; 31], &[SOUND; 2])), 7)?;
-    check_eq(tried(Opening { buyers: 0, ..may(&[0; 31], &sound) }), 6)?;
-    check_eq(tried(Opening { buyers: 9, ..may(&[0; 31], &sound) }), 6)?;
-    check_eq(tried(Opening { buyers: 8, ..may(&[0; 31], &sound) }), 7)?;
-    check_eq(tried(Opening { buyers: 1, ..may(&[0; 31], &sound) }), 0)?;
+    check_eq(
+        tried(Opening {
+            buyers: 0,
+            ..may(&[0; 31], &sound)
+        }),
+        6,
+    )?;
+    check_eq(
+        tried(Opening {
+            buyers: 9,
+            ..may(&[0; 31], &sound)
+        }),
+        6,
+    )?;
+    check_eq(
+        tried(Opening {
+            buyers: 8,
+            ..may(&[0; 31], &sound)
+        }),
+        7,
+    )?;
+    check_eq(
+        tried(Opening {
+            buyers: 1,
+            ..may(&[0; 31], &sound)
+        }),
+        0,
+    )?;
     Ok(())
 }
 
 #[test]
 fn kinds_customers_and_aggregators() -> Result<(), Fail> {
-    check_eq(tried(may(&[0; 31], &[Registration { kind: 0, ..SOUND }])), 5)?;
-    check_eq(tried(may(&[0; 31], &[Registration { kind: 1, ..SOUND }])), 0)?;
-    check_eq(tried(may(&[0; 31], &[Registration { kind: 5, ..SOUND }])), 5)?;
-    check_eq(tried(may(&[0; 31], &[Registration { customers: 0, ..SOUND }])), 5)?;
-    check_eq(tried(may(&[0; 31], &[Registration { customers: 17, ..SOUND }])), 5)?;
-    check_eq(tried(may(&[0; 31], &[Registration { aggregator: 0, ..SOUND }])), 5)?;
-    check_eq(tried(may(&[0; 31], &[Registration { aggregator: 100, ..SOUND }])), 5)?;
+    check_eq(
+        tried(may(&[0; 31], &[Registration { kind: 0, ..SOUND }])),
+        5,
+    )?;
+    check_eq(
+        tried(may(&[0; 31], &[Registration { kind: 1, ..SOUND }])),
+        0,
+    )?;
+    check_eq(
+        tried(may(&[0; 31], &[Registration { kind: 5, ..SOUND }])),
+        5,
+    )?;
+    check_eq(
+        tried(may(
+            &[0; 31],
+            &[Registration {
+                customers: 0,
+                ..SOUND
+            }],
+        )),
+        5,
+    )?;
+    check_eq(
+        tried(may(
+            &[0; 31],
+            &[Registration {
+                customers: 17,
+                ..SOUND
+            }],
+        )),
+        5,
+    )?;
+    check_eq(
+        tried(may(
+            &[0; 31],
+            &[Registration {
+                aggregator: 0,
+                ..SOUND
+            }],
+        )),
+        5,
+    )?;
+    check_eq(
+        tried(may(
+            &[0; 31],
+            &[Registration {
+                aggregator: 100,
+                ..SOUND
+            }],
+        )),
+        5,
+    )?;
     Ok(())
 }
 
@@ -119,10 +248,19 @@ fn lists_keep_what_lies_beyond() -> Result<(), Fail> {
     let mut book = Book::new();
     let mut lines = [OLD_LINE; 746];
     let mut charges = [OLD_CHARGE; 1489];
-    check_eq(number_of(book.open(may(&[0; 31], &[SOUND]), &mut lines, &mut charges)), 0)?;
+    check_eq(
+        number_of(book.open(may(&[0; 31], &[SOUND]), &mut lines, &mut charges)),
+        0,
+    )?;
     check(lines[743] == ResourceLine::Empty && lines[744] == OLD_LINE && lines[745] == OLD_LINE)?;
-    let none = BuyerLine { charge: 0, refund: 0 };
+    let none = BuyerLine {
+        charge: 0,
+        refund: 0,
+    };
     check(charges[1487] == none && charges[1488] == OLD_CHARGE)?;
-    check_eq(number_of(book.open(may(&[0; 31], &[SOUND]), &mut lines, &mut charges)), 9)?;
+    check_eq(
+        number_of(book.open(may(&[0; 31], &[SOUND]), &mut lines, &mut charges)),
+        9,
+    )?;
     Ok(())
 }
