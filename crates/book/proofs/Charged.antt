@@ -17,7 +17,7 @@ use Rattle.share.proofs.Turns.{share-fits}
 use Rattle.table.specs.declared.lines.BuyerLine.{BuyerLine}
 use Rattle.table.specs.Lines.{no-charge}
 use Rattle.table.specs.Tables.{filled}
-use Rattle.table.proofs.Filling.{filled-same, filled-inside, length-filled}
+use Rattle.table.proofs.Filling.{filled-same, read-filled, length-filled}
 use Rattle.book.specs.Calls.{charges-of}
 
 -- the row of the shares
@@ -34,7 +34,7 @@ filled-from-row xs row at n f few e =
     let all : min n (length row) ≡ n = omega arith in
     ap (λ m. filled xs at m (λ k. getD row k no-charge)) all
     ∙ filled-same xs at n (λ k. getD row k no-charge) f
-    (λ k l. ap (λ r. getD r k no-charge) e ∙ ap (λ j. getD (filled (replicate 8 no-charge) 0 8 f) j no-charge) (sym (zero-add k)) ∙ filled-inside (replicate 8 no-charge) 0 8 k f no-charge (omega arith) (omega arith))
+    (λ k l. ap (λ r. getD r k no-charge) e ∙ ap (λ j. getD (filled (replicate 8 no-charge) 0 8 f) j no-charge) (sym (zero-add k)) ∙ read-filled (replicate 8 no-charge) 0 8 k f no-charge (omega arith) (omega arith))
 
 some-same : (xs ys : List ℤ) → _≡_ {A = Option (List ℤ)} (Some xs) (Some ys) → xs ≡ ys
 some-same xs ys p = cc
@@ -50,5 +50,5 @@ cell-is a ws k xs few fits e =
     toZ-ofZ w64 (getD xs k (pos 0)) (subst (SFits w64) (sym (ap (λ l. getD l k (pos 0)) same ∙ share-at a ws 16 k few)) (share-fits a ws k fits))
 
 -- a row's sum as the code has it
-pub narrowed : (v : ℤ) (n : ℕ) → n ≤ 16 → natAbs v ≤ n * 2 ^ 32 → toZ w64 (ofZ w64 (toZ w128 (ofZ w128 v))) ≡ v
-narrowed v n few h = omega (arith, ints)
+pub narrowed : (v : ℤ) → natAbs v ≤ 2 ^ 36 → toZ w64 (ofZ w64 (toZ w128 (ofZ w128 v))) ≡ v
+narrowed v h = omega (arith, ints)

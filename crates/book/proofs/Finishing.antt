@@ -7,7 +7,7 @@ use mathlib.Core.List.{List, [], _∷_, _++_}
 use native.Mathlib.Omega.{arith}
 use lib.Dec.{eqb, ltb}
 use lib.ListN.{length, getD, length-set}
-use lib.Seq.{getD-set-same}
+use lib.Seq.{getD-set-same, getD-set-other}
 use Rattle.std.specs.declared.option.Option.{Option}
 use Rattle.std.specs.declared.option.Option.the-variants.{Some, None}
 use Rattle.std.proofs.shelf.Tests.{cases-lt, both-ways, and-parts, and-from, eq-eqb, not-false}
@@ -16,14 +16,15 @@ use Rattle.refusal.specs.declared.Refusal.{Refusal}
 use Rattle.refusal.specs.declared.Refusal.the-variants.{ShortLists, WrongSlip}
 use Rattle.refusal.specs.Tests.{refused-if, first-of}
 use Rattle.table.specs.declared.lines.ResourceLine.{ResourceLine}
+use Rattle.table.specs.declared.lines.BuyerLine.{BuyerLine}
 use Rattle.table.specs.Lines.{no-charge}
 use Rattle.table.proofs.Filling.{length-filled}
 use Rattle.book.specs.declared.energies.Energies.{Energies}
 use Rattle.book.specs.declared.hour.Hour.{Hour}
-use Rattle.book.specs.declared.hour.Hour.the-variants.{Blank}
+use Rattle.book.specs.declared.hour.Hour.the-variants.{Blank, Told, Allotted, Correcting}
 use Rattle.book.specs.Hours.{is-allotted, is-correcting, told-anew, as-correcting}
 use Rattle.book.specs.State.{State, hours-of, in-month, place, hour-at, short-for}
-use Rattle.book.specs.Calls.{Slip, Settling, Call, named, of-book, slip-for, tests, refusal, effect, state-by, step, with-energies, with-line, reopened}
+use Rattle.book.specs.Calls.{Slip, Settling, Call, named, of-book, slip-for, tests, refusal, effect, state-by, step, with-energies, with-line, with-row, reopened}
 use Rattle.book.specs.Calls.Call.{tell, settle, withdraw, allot, reopen, finish}
 use Rattle.book.proofs.Places.{at-place}
 use Rattle.book.proofs.Refused.{passed, not-refused}
@@ -87,6 +88,21 @@ line-still b h r line slip o = record {
   out = o .out;
 }
 
+-- another hour's state and charges leave the hours in correction
+row-still : (b : State) (h : ℕ) (x : Hour Energies) (row : ℕ → BuyerLine) (slip : Slip) → Open-slip b slip → place (slip .day) (slip .hour) ≢ h → Open-slip (with-row b h x row) slip
+row-still b h x row slip o ne = record {
+  long = ap (λ n. ltb (length (b .lines)) (hours-of (b .register) * b .register .enrolled) || ltb n (hours-of (b .register) * b .register .buyers)) (length-filled (b .charges) (h * b .register .buyers) (b .register .buyers) row) ∙ o .long;
+  ours = o .ours;
+  out = ap is-correcting (getD-set-other (b .hours) h (place (slip .day) (slip .hour)) x Blank ne) ∙ o .out;
+}
+
+-- no hour is both allotted and in correction
+one-state : (x : Hour Energies) → is-allotted x ≡ true → is-correcting x ≡ true → ⊥
+one-state Blank a c = both-ways false refl a
+one-state (Told t) a c = both-ways false refl a
+one-state (Allotted t) a c = both-ways false refl c
+one-state (Correcting t) a c = both-ways false refl a
+
 by : (b : State) (c : Call) (slip : Slip) → refusal (finish slip) b ≡ None → (refusal c b ≡ None → refusal (finish slip) (effect c b) ≡ None) → refusal (finish slip) (step c b .1) ≡ None
 by b c slip e k = go (refusal c b) refl
   where
@@ -103,3 +119,18 @@ module _ (b : State) (slip : Slip) (e : refusal (finish slip) b ≡ None) where
 
   pub finishes-withdrawn : (r day hour : ℕ) → refusal (finish slip) (step (withdraw r day hour) b .1) ≡ None
   finishes-withdrawn r day hour = by b (withdraw r day hour) slip e (λ _. finishes _ slip (line-still b _ _ _ slip (open-slip b slip e)))
+
+  -- an hour in correction can be neither allotted nor reopened, so another hour is
+  pub finishes-allotted : (day hour : ℕ) → refusal (finish slip) (step (allot day hour) b .1) ≡ None
+  finishes-allotted day hour = by b (allot day hour) slip e (λ none. finishes _ slip (row-still b (place day hour) _ _ slip (open-slip b slip e) (λ same. both-ways _ (not-refused _ _ (passed (tests (allot day hour) b) none 3)) (ap (λ p. is-correcting (hour-at b p)) (sym same) ∙ open-slip b slip e .out))))
+
+  -- an hour that is reopened was not in correction
+  pub finishes-elsewhere : (day hour : ℕ) → refusal (reopen day hour) b ≡ None → place (slip .day) (slip .hour) ≢ place day hour
+  finishes-elsewhere day hour none = λ same. one-state (hour-at b (place day hour)) (not-false _ (not-refused _ _ (passed (tests (reopen day hour) b) none 2))) (ap (λ p. is-correcting (hour-at b p)) (sym same) ∙ open-slip b slip e .out)
+
+  pub finishes-reopened : (day hour : ℕ) → refusal (finish slip) (step (reopen day hour) b .1) ≡ None
+  finishes-reopened day hour = by b (reopen day hour) slip e (λ none. finishes _ slip (row-still b (place day hour) _ _ slip (open-slip b slip e) (finishes-elsewhere day hour none)))
+
+  -- the finishing of another hour
+  pub finishes-other : (other : Slip) → place (slip .day) (slip .hour) ≢ place (other .day) (other .hour) → refusal (finish slip) (step (finish other) b .1) ≡ None
+  finishes-other other ne = by b (finish other) slip e (λ none. finishes _ slip (row-still b (place (other .day) (other .hour)) _ _ slip (open-slip b slip e) ne))

@@ -1,12 +1,14 @@
 // Allotting an hour to its buyers, reopening it, and finishing its correction.
 ghost use mathlib.Core.Path.{_≡_};
 ghost use mathlib.Core.List.{List};
-ghost use Prim.Native.Nat.{_*_, _<_, _≤_};
+ghost use Prim.Native.Nat.{_+_, _*_, _^_, _<_, _≤_};
+ghost use lib.IntN.{natAbs};
 ghost use lib.ListN.{getD, replicate};
 ghost use Rattle.std.specs.Vec.{made};
 ghost use Rattle.std.specs.declared.option.Option.the-variants.{None};
 ghost use Rattle.share.specs.Shares.{shares};
-ghost use Rattle.table.specs.Lines.{no-charge};
+ghost use Rattle.won.specs.Sums.{total-to};
+ghost use Rattle.table.specs.Lines.{no-line, no-charge, paid-of, fined-of};
 ghost use Rattle.table.specs.Tables.{filled};
 ghost use Rattle.book.specs.Hours.{step-refusal, step-answer, hour-after};
 ghost use Rattle.book.specs.State.{paid-in, fined-in};
@@ -27,6 +29,7 @@ use share::share_out;
 use table::lines::BuyerLine;
 use table::lines::ResourceAmounts;
 use table::lines::ResourceLine;
+use table::table::Sums;
 use table::table::row_sums;
 
 // The shares of an amount, by the purchases.
@@ -68,6 +71,15 @@ impl Book {
         step_at(&mut self.hours, h as usize, call)
     }
 
+    // What an hour's lines are paid and fined together.
+    fn amounts_in(&self, lines: &[ResourceLine], h: u32) -> Sums
+        ensures due { λ r. ⌜ r .due ≡ total-to (now (self .entry) .register .enrolled) (λ k. paid-of (getD (now (lines .entry)) (h * now (self .entry) .register .enrolled + k) no-line)) ⌝ }
+        ensures back { λ r. ⌜ r .back ≡ total-to (now (self .entry) .register .enrolled) (λ k. fined-of (getD (now (lines .entry)) (h * now (self .entry) .register .enrolled + k) no-line)) ⌝ }
+        ensures bounded { λ r. ⌜ (natAbs (r .due) ≤ 2 ^ 36) × (natAbs (r .back) ≤ 2 ^ 36) ⌝ }
+    {
+        row_sums(lines, self.register.enrolled, h)
+    }
+
     // Writes each buyer's charge and refund of an hour.
     pub(crate) fn charge_hour(
         &self,
@@ -78,7 +90,7 @@ impl Book {
     )
         ensures value { λ _. ⌜ now (charges .exit) ≡ filled (now (charges .entry)) (h * now (self .entry) .register .buyers) (now (self .entry) .register .buyers) (charges-of (paid-in (seen (now (self .entry)) (now (lines .entry)) (now (charges .entry))) h) (fined-in (seen (now (self .entry)) (now (lines .entry)) (now (charges .entry))) h) (energies .purchases)) ⌝ }
     {
-        let sums = row_sums(lines, self.register.enrolled, h);
+        let sums = self.amounts_in(lines, h);
         let row = charge_row(sums.due as i64, sums.back as i64, energies.purchases);
         put_row(charges, self.register.buyers, h, &row);
     }
@@ -100,7 +112,7 @@ impl Book {
                     self.charge_hour(lines, charges, h, energies);
                     Ok(())
                 }
-                Err(refusal) => Err(refusal),
+                Err(reason) => Err(reason),
             },
             Err(refusal) => Err(refusal),
         }

@@ -95,13 +95,8 @@ impl Book {
         match self.line_place(lines, charges, resource, day, hour) {
             Ok(h) => match self.reckon(resource, day, hour, terms, marks, scheduled, mandatory) {
                 Ok(line) => {
-                    put_line(
-                        lines,
-                        self.register.enrolled,
-                        h,
-                        resource,
-                        ResourceLine::Settled(line),
-                    );
+                    let width = self.register.enrolled;
+                    put_line(lines, width, h, resource, ResourceLine::Settled(line));
                     Ok(())
                 }
                 Err(refusal) => Err(refusal),

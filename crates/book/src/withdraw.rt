@@ -28,13 +28,8 @@ impl Book {
             Ok(h) => match line_at(lines, self.register.enrolled, h, resource) {
                 ResourceLine::Empty => Err(Refusal::NoLine),
                 ResourceLine::Settled(_) => {
-                    put_line(
-                        lines,
-                        self.register.enrolled,
-                        h,
-                        resource,
-                        ResourceLine::Empty,
-                    );
+                    let width = self.register.enrolled;
+                    put_line(lines, width, h, resource, ResourceLine::Empty);
                     Ok(())
                 }
             },

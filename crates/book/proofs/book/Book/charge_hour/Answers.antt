@@ -18,10 +18,9 @@ pub returns : need.returns
 returns c =
     let z = c .args .self .now in
     let b : State = seen z (c .args .lines .now) (c .args .charges .now) in
-    let few = z .«enrolled_few» in
-    let bound = c .row-sums-sums .ensures .bounded in
-    let paid = narrowed (c .row-sums-sums .result .due) (z .register .enrolled) few (bound .0) ∙ c .row-sums-sums .ensures .due in
-    let fined = narrowed (c .row-sums-sums .result .back) (z .register .enrolled) few (bound .1) ∙ c .row-sums-sums .ensures .back in
+    let bound = c .amounts-in-sums .ensures .bounded in
+    let paid = narrowed (c .amounts-in-sums .result .due) (bound .0) ∙ c .amounts-in-sums .ensures .due in
+    let fined = narrowed (c .amounts-in-sums .result .back) (bound .1) ∙ c .amounts-in-sums .ensures .back in
     let row = c .charge-row-row .ensures .value ∙ ap₂ (λ (x y : ℤ). filled (replicate 8 no-charge) 0 8 (charges-of x y (c .args .energies .purchases))) paid fined in
     record {
       value = c .put-row .ensures .value
