@@ -125,4 +125,19 @@ impl Desk {
             }
         }
     }
+
+    // Tells energies over no lines.
+    pub fn tell_short(&mut self) -> u32 {
+        answer_of(self.book.tell(&[], &self.charges, 1, 1, 3, &[1, 1]))
+    }
+
+    // Withdraws a line over no charges.
+    pub fn withdraw_short(&mut self) -> u32 {
+        answer_of(self.book.withdraw(&mut self.lines, &[], 0, 1, 1))
+    }
+
+    // Allots an hour over no lines.
+    pub fn allot_short(&mut self) -> u32 {
+        answer_of(self.book.allot(&[], &mut self.charges, 1, 1))
+    }
 }

@@ -62,8 +62,7 @@ impl HourNote {
         let mut sum: i64 = 0;
         for r in 0..3 {
             if let Some(entry) = self.entries[r] {
-                sum = sum
-                    .saturating_add(entry.plan_pay)
+                sum = sum.saturating_add(entry.plan_pay)
                     .saturating_add(entry.order_pay);
             }
         }
@@ -110,7 +109,7 @@ impl Ledger {
     }
 
     // What telling should answer; the energies are noted if nothing is refused.
-    pub fn tell(&mut self, day: u32, hour: u32, total: u32, others: &[u32]) -> u32 {
+    pub fn hear(&mut self, day: u32, hour: u32, total: u32, others: &[u32]) -> u32 {
         let Some(mut note) = self.at(day, hour) else {
             return 10;
         };
@@ -270,11 +269,9 @@ impl Ledger {
                 sums.paid = sums.paid.saturating_add(note.paid());
                 sums.fined = sums.fined.saturating_add(note.fined());
                 for k in 0..3 {
-                    sums.charged = sums
-                        .charged
+                    sums.charged = sums.charged
                         .saturating_add(share(note.paid(), note.purchases, k));
-                    sums.refunded = sums
-                        .refunded
+                    sums.refunded = sums.refunded
                         .saturating_add(share(note.fined(), note.purchases, k));
                 }
             }

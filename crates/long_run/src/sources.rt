@@ -25,7 +25,14 @@ use settlement::terms::Terms;
 
 // The texts of the methods; the last calls for none.
 pub const TEXTS: [&str; 8] = [
-    "max45", "mid610", "mid46", "mid810", "hmax45", "hmid610", "hmid46", "max46",
+    "max45",
+    "mid610",
+    "mid46",
+    "mid810",
+    "hmax45",
+    "hmid610",
+    "hmid46",
+    "max46",
 ];
 
 // What the methods are.
@@ -112,7 +119,15 @@ fn settle_below<S: BaselineSource>(
 {
     if sort.number == 0 {
         let source = Ranked::new(meters.intervals(), sort.method);
-        return desk.settle(q.resource, q.day, q.hour, q.terms, &q.marks, scheduled, &source);
+        return desk.settle(
+            q.resource,
+            q.day,
+            q.hour,
+            q.terms,
+            &q.marks,
+            scheduled,
+            &source,
+        );
     }
     if sort.number == 1 {
         let record = meters.intervals();
@@ -121,10 +136,26 @@ fn settle_below<S: BaselineSource>(
             marks: &meters.left,
         };
         let source = Ranked::new(standing, sort.method);
-        return desk.settle(q.resource, q.day, q.hour, q.terms, &q.marks, scheduled, &source);
+        return desk.settle(
+            q.resource,
+            q.day,
+            q.hour,
+            q.terms,
+            &q.marks,
+            scheduled,
+            &source,
+        );
     }
     let source = meters.filings();
-    desk.settle(q.resource, q.day, q.hour, q.terms, &q.marks, scheduled, &source)
+    desk.settle(
+        q.resource,
+        q.day,
+        q.hour,
+        q.terms,
+        &q.marks,
+        scheduled,
+        &source,
+    )
 }
 
 // Settles over a scheduled source and a mandatory one of a register record or adjusted.
@@ -139,7 +170,15 @@ fn settle_above<S: BaselineSource>(
 {
     if sort.number == 2 {
         let source = Ranked::new(meters.registers(), sort.method);
-        return desk.settle(q.resource, q.day, q.hour, q.terms, &q.marks, scheduled, &source);
+        return desk.settle(
+            q.resource,
+            q.day,
+            q.hour,
+            q.terms,
+            &q.marks,
+            scheduled,
+            &source,
+        );
     }
     if sort.number == 3 {
         let record = meters.registers();
@@ -151,7 +190,15 @@ fn settle_above<S: BaselineSource>(
             below: Ranked::new(standing, sort.method),
             starts: &meters.starts,
         };
-        return desk.settle(q.resource, q.day, q.hour, q.terms, &q.marks, scheduled, &source);
+        return desk.settle(
+            q.resource,
+            q.day,
+            q.hour,
+            q.terms,
+            &q.marks,
+            scheduled,
+            &source,
+        );
     }
     if sort.number == 5 {
         let ranked = Ranked::new(meters.intervals(), sort.method);
@@ -159,13 +206,29 @@ fn settle_above<S: BaselineSource>(
             below: &ranked,
             starts: &meters.starts,
         };
-        return desk.settle(q.resource, q.day, q.hour, q.terms, &q.marks, scheduled, &source);
+        return desk.settle(
+            q.resource,
+            q.day,
+            q.hour,
+            q.terms,
+            &q.marks,
+            scheduled,
+            &source,
+        );
     }
     let source = Adjusted {
         below: meters.filings(),
         starts: &meters.starts,
     };
-    desk.settle(q.resource, q.day, q.hour, q.terms, &q.marks, scheduled, &source)
+    desk.settle(
+        q.resource,
+        q.day,
+        q.hour,
+        q.terms,
+        &q.marks,
+        scheduled,
+        &source,
+    )
 }
 
 // Settles over a scheduled source and a mandatory one by its number.
