@@ -85,6 +85,18 @@ pub fn means(rt: &LibcRuntime, tally: &mut Tally) -> Result<(), AnyError> {
     tally.note(rt, "max45 on day 96", Outcome::Because(3), mean_on("max45", &ten, 96))
 }
 
+// Marks of the newest days before day 11, as many as are said.
+fn newest(count: usize) -> [u8; 96] {
+    let mut marks = [0; 96];
+    let first = 11_usize.saturating_sub(count);
+    for d in 0..11 {
+        if first <= d {
+            marks[d] = 1;
+        }
+    }
+    marks
+}
+
 // Ten workdays before day 11, day 0 and as many of the newest left out as are said.
 fn reached(left_out: usize) -> Outcome {
     let method = match Method::named("max45") {
@@ -92,12 +104,7 @@ fn reached(left_out: usize) -> Outcome {
         Err(refusal) => return refused(refusal),
     };
     let loads = hour_11(&[90, 10, 20, 30, 40, 50, 60, 70, 80, 90, 100]);
-    let mut marks = [0; 96];
-    for d in 0..11 {
-        if d + left_out > 10 {
-            marks[d] = 1;
-        }
-    }
+    let marks = newest(left_out);
     let record = LeftOut {
         below: IntervalRecord {
             loads: &loads,
@@ -116,11 +123,7 @@ pub fn reach(rt: &LibcRuntime, tally: &mut Tally) -> Result<(), AnyError> {
 }
 
 // Five days with equal loads in hour 11 and, oldest first, 100, 1, 1, 1, 1 in hour 9; the last lacks hour 8, the first hour 7.
-fn of_equal_days(hour: u32, at: u32) -> Outcome {
-    let method = match Method::named("max45") {
-        Ok(method) => method,
-        Err(refusal) => return refused(refusal),
-    };
+fn equal_days() -> [u32; 2304] {
     let mut loads = [3; 2304];
     for d in 0..5 {
         loads[d * 24 + 8] = 1;
@@ -128,6 +131,16 @@ fn of_equal_days(hour: u32, at: u32) -> Outcome {
     loads[8] = 100;
     loads[4 * 24 + 7] = 20_000_001;
     loads[6] = 20_000_001;
+    loads
+}
+
+// The profile in an hour over those days, chosen for another.
+fn of_equal_days(hour: u32, at: u32) -> Outcome {
+    let method = match Method::named("max45") {
+        Ok(method) => method,
+        Err(refusal) => return refused(refusal),
+    };
+    let loads = equal_days();
     let record = IntervalRecord {
         loads: &loads,
         classes: &[0; 96],

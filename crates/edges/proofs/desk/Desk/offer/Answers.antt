@@ -1,0 +1,9 @@
+use Rattle.book.specs.Calls.{refusal}
+use Rattle.book.specs.Calls.Call.{finish}
+use Rattle.book.specs.Seen.{named-by}
+use Rattle.edges.specs.Keeping.{on-desk}
+use Rattle.edges.proofs.Back.{handed-back}
+use Rattle.edges.proofs.desk.Desk.offer.Needs as need
+
+pub returns-in-Err : need.returns-in-Err
+returns-in-Err c = record { back = handed-back (refusal (finish (named-by (c .args .slip))) (on-desk (c .args .self .now))) (c .args .slip) (c .in-Err .refused-slip) (c .in-Err .ensures tt .answer) }

@@ -1,0 +1,6 @@
+use Rattle.book.specs.Calls.{Slip}
+use Rattle.book.specs.Seen.{named-by}
+use Rattle.edges.proofs.slips.allotted_meanwhile.Needs as need
+
+pub finish-requires : need.finish-requires
+finish-requires c κs = let slip : Slip = named-by (c .in-Ok .slip) in c .allot-again-answer .ensures .keeps slip (c .in-Ok .ensures tt .finishes)
