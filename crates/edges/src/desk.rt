@@ -64,7 +64,10 @@ impl Desk {
 
     // Tells an hour's energies.
     pub fn tell(&mut self, day: u32, hour: u32, total: u32, others: &[u32]) -> Outcome {
-        answered(self.book.tell(&self.lines, &self.charges, day, hour, total, others))
+        answered(
+            self.book
+                .tell(&self.lines, &self.charges, day, hour, total, others),
+        )
     }
 
     // Settles an hour of day 1 over two filed sources in which every baseline is the same and every load is 0.
@@ -72,23 +75,25 @@ impl Desk {
         let scheduled = [sr; 4608];
         let mandatory = [dr; 4608];
         let loads = [0; 4608];
-        answered(self.book.settle(
-            &mut self.lines,
-            &self.charges,
-            resource,
-            1,
-            hour,
-            terms,
-            &[1, 1],
-            &FiledSource {
-                baselines: &scheduled,
-                loads: &loads,
-            },
-            &FiledSource {
-                baselines: &mandatory,
-                loads: &loads,
-            },
-        ))
+        answered(
+            self.book.settle(
+                &mut self.lines,
+                &self.charges,
+                resource,
+                1,
+                hour,
+                terms,
+                &[1, 1],
+                &FiledSource {
+                    baselines: &scheduled,
+                    loads: &loads,
+                },
+                &FiledSource {
+                    baselines: &mandatory,
+                    loads: &loads,
+                },
+            ),
+        )
     }
 
     // Settles hour 11 of day 1 over a source in which customer k cuts 10 to the power k, up to four customers, with marks.
@@ -99,22 +104,27 @@ impl Desk {
             baselines: &baselines,
             loads: &loads,
         };
-        answered(self.book.settle(
-            &mut self.lines,
-            &self.charges,
-            0,
-            1,
-            11,
-            terms,
-            marks,
-            &source,
-            &source,
-        ))
+        answered(
+            self.book.settle(
+                &mut self.lines,
+                &self.charges,
+                0,
+                1,
+                11,
+                terms,
+                marks,
+                &source,
+                &source,
+            ),
+        )
     }
 
     // Withdraws a line.
     pub fn withdraw(&mut self, resource: u32, day: u32, hour: u32) -> Outcome {
-        answered(self.book.withdraw(&mut self.lines, &self.charges, resource, day, hour))
+        answered(
+            self.book
+                .withdraw(&mut self.lines, &self.charges, resource, day, hour),
+        )
     }
 
     // Allots an hour.
@@ -125,21 +135,24 @@ impl Desk {
     // A figure of the line in an hour of day 1: 0 SR, 1 DR, 2 DLR, 3 SLR, 4 paid, any other fined.
     pub fn figure(&self, hour: u32, which: u32) -> Outcome {
         match self.book.read_line(&self.lines, &self.charges, 0, 1, hour) {
-            Ok(line) => Outcome::Number(match which {
-                0 => line.sr,
-                1 => line.dr,
-                2 => i64::try_from(line.dlr).unwrap_or(-1),
-                3 => i64::try_from(line.slr).unwrap_or(-1),
-                4 => i64::from(line.plan_pay) + i64::from(line.order_pay),
-                _ => i64::from(line.fined),
-            }),
+            Ok(line) => Outcome::Number(
+                match which {
+                    0 => line.sr,
+                    1 => line.dr,
+                    2 => i64::try_from(line.dlr).unwrap_or(-1),
+                    3 => i64::try_from(line.slr).unwrap_or(-1),
+                    4 => i64::from(line.plan_pay) + i64::from(line.order_pay),
+                    _ => i64::from(line.fined),
+                },
+            ),
             Err(refusal) => refused(refusal),
         }
     }
 
     // Reads a line, and says only whether there is one.
     pub fn read_line(&self, resource: u32, day: u32, hour: u32) -> Outcome {
-        match self.book.read_line(&self.lines, &self.charges, resource, day, hour) {
+        match self.book
+            .read_line(&self.lines, &self.charges, resource, day, hour) {
             Ok(_) => Outcome::Granted,
             Err(refusal) => refused(refusal),
         }
@@ -147,7 +160,8 @@ impl Desk {
 
     // A buyer's charge.
     pub fn charge(&self, buyer: u32, day: u32, hour: u32) -> Outcome {
-        match self.book.read_charge(&self.lines, &self.charges, buyer, day, hour) {
+        match self.book
+            .read_charge(&self.lines, &self.charges, buyer, day, hour) {
             Ok(line) => Outcome::Number(line.charge),
             Err(refusal) => refused(refusal),
         }
@@ -155,7 +169,8 @@ impl Desk {
 
     // A buyer's refund.
     pub fn refund(&self, buyer: u32, day: u32, hour: u32) -> Outcome {
-        match self.book.read_charge(&self.lines, &self.charges, buyer, day, hour) {
+        match self.book
+            .read_charge(&self.lines, &self.charges, buyer, day, hour) {
             Ok(line) => Outcome::Number(line.refund),
             Err(refusal) => refused(refusal),
         }

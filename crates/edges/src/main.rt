@@ -7,6 +7,7 @@ mod outcome;
 mod records;
 mod slips;
 mod sources;
+
 use outcome::Tally;
 use std::error::AnyError;
 

@@ -34,17 +34,42 @@ pub fn months(rt: &LibcRuntime, tally: &mut Tally) -> Result<(), AnyError> {
         ("April with 31 days", 4, 31, Outcome::Refused(2)),
         ("month 12 with 31 days", 12, 31, Outcome::Granted),
         ("month 13", 13, 31, Outcome::Refused(1)),
-        ("month 13 with no days: 1 comes before 2", 13, 0, Outcome::Refused(1)),
+        (
+            "month 13 with no days: 1 comes before 2",
+            13,
+            0,
+            Outcome::Refused(1),
+        ),
     ] {
         let mut desk = Desk::new();
         let length: usize = days;
-        tally.note(rt, what, expected, desk.open(month, &classes[0..length.min(32)], 1, 1))?;
+        tally.note(
+            rt,
+            what,
+            expected,
+            desk.open(month, &classes[0..length.min(32)], 1, 1),
+        )?;
     }
     let mut desk = Desk::new();
-    tally.note(rt, "a class byte of 2", Outcome::Refused(2), desk.open(2, &[2; 28], 1, 1))?;
-    tally.note(rt, "opened after a refusal", Outcome::Granted, desk.open(2, &[1; 28], 1, 1))?;
+    tally.note(
+        rt,
+        "a class byte of 2",
+        Outcome::Refused(2),
+        desk.open(2, &[2; 28], 1, 1),
+    )?;
+    tally.note(
+        rt,
+        "opened after a refusal",
+        Outcome::Granted,
+        desk.open(2, &[1; 28], 1, 1),
+    )?;
     let again = desk.open(0, &[2; 28], 9, 9);
-    tally.note(rt, "opened again: 9 comes before all", Outcome::Refused(9), again)
+    tally.note(
+        rt,
+        "opened again: 9 comes before all",
+        Outcome::Refused(9),
+        again,
+    )
 }
 
 // Kinds, customers and aggregators.
@@ -97,11 +122,13 @@ fn opened(first_day: u32, count: usize, kind: u32, buyers: u32, short: usize) ->
     };
     let lines_end = 11_904 - short.min(1);
     let charges_end = 5_952 - short.min(2) / 2;
-    answered(desk.book.open(
-        opening,
-        &mut lines[0..lines_end],
-        &mut charges[0..charges_end],
-    ))
+    answered(
+        desk.book.open(
+            opening,
+            &mut lines[0..lines_end],
+            &mut charges[0..charges_end],
+        ),
+    )
 }
 
 // First day, counts of resources and buyers, and the lists' measure.
@@ -110,18 +137,47 @@ pub fn counts(rt: &LibcRuntime, tally: &mut Tally) -> Result<(), AnyError> {
         ("first day 64", 64, 1, 1, 1, 0, Outcome::Granted),
         ("first day 65", 65, 1, 1, 1, 0, Outcome::Refused(3)),
         ("no resource", 0, 0, 1, 1, 0, Outcome::Refused(4)),
-        ("16 resources and 8 buyers over lists as long as the measure", 0, 16, 1, 8, 0, Outcome::Granted),
+        (
+            "16 resources and 8 buyers over lists as long as the measure",
+            0,
+            16,
+            1,
+            8,
+            0,
+            Outcome::Granted,
+        ),
         ("17 resources", 0, 17, 1, 1, 0, Outcome::Refused(4)),
         ("no buyer", 0, 1, 1, 0, 0, Outcome::Refused(6)),
         ("9 buyers", 0, 1, 1, 9, 0, Outcome::Refused(6)),
-        ("a list of lines one place short", 0, 16, 1, 1, 1, Outcome::Refused(7)),
-        ("a list of charges one place short", 0, 15, 1, 8, 2, Outcome::Refused(7)),
+        (
+            "a list of lines one place short",
+            0,
+            16,
+            1,
+            1,
+            1,
+            Outcome::Refused(7),
+        ),
+        (
+            "a list of charges one place short",
+            0,
+            15,
+            1,
+            8,
+            2,
+            Outcome::Refused(7),
+        ),
         ("3 comes before 4", 65, 0, 1, 1, 0, Outcome::Refused(3)),
         ("4 comes before 5", 0, 17, 5, 1, 0, Outcome::Refused(4)),
         ("5 comes before 6", 0, 1, 5, 0, 0, Outcome::Refused(5)),
         ("6 comes before 7", 0, 16, 1, 9, 2, Outcome::Refused(6)),
     ] {
-        tally.note(rt, what, expected, opened(first_day, count, kind, buyers, short))?;
+        tally.note(
+            rt,
+            what,
+            expected,
+            opened(first_day, count, kind, buyers, short),
+        )?;
     }
     Ok(())
 }

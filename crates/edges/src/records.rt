@@ -16,11 +16,13 @@ use std::error::AnyError;
 
 // A class as a number: 0 workday, 1 holiday, 2 neither.
 fn class_of(class: DayClass) -> Outcome {
-    Outcome::Number(match class {
-        DayClass::Workday => 0,
-        DayClass::Holiday => 1,
-        DayClass::Neither => 2,
-    })
+    Outcome::Number(
+        match class {
+            DayClass::Workday => 0,
+            DayClass::Holiday => 1,
+            DayClass::Neither => 2,
+        },
+    )
 }
 
 // The interval record, whose list ends after the second customer's first hour.
@@ -35,11 +37,35 @@ pub fn intervals(rt: &LibcRuntime, tally: &mut Tally) -> Result<(), AnyError> {
         classes: &[0, 1, 2],
     };
     for (what, c, d, h, expected) in [
-        ("interval load 20,000,000", 0, 0, 1, Outcome::Number(20_000_000)),
+        (
+            "interval load 20,000,000",
+            0,
+            0,
+            1,
+            Outcome::Number(20_000_000),
+        ),
         ("interval load 20,000,001", 0, 0, 2, Outcome::Missing),
-        ("interval load of the last day's hour 24", 0, 95, 24, Outcome::Number(5)),
-        ("interval load of the next customer's first hour", 1, 0, 1, Outcome::Number(6)),
-        ("interval load past the list's end", 1, 0, 2, Outcome::Missing),
+        (
+            "interval load of the last day's hour 24",
+            0,
+            95,
+            24,
+            Outcome::Number(5),
+        ),
+        (
+            "interval load of the next customer's first hour",
+            1,
+            0,
+            1,
+            Outcome::Number(6),
+        ),
+        (
+            "interval load past the list's end",
+            1,
+            0,
+            2,
+            Outcome::Missing,
+        ),
         ("interval load in hour 0", 1, 0, 0, Outcome::Missing),
         ("interval load in hour 25", 0, 94, 25, Outcome::Missing),
         ("interval load on day 96", 0, 96, 1, Outcome::Missing),
@@ -54,7 +80,12 @@ pub fn intervals(rt: &LibcRuntime, tally: &mut Tally) -> Result<(), AnyError> {
         ("class of a day without a byte", 3, 2),
         ("class of day 96", 96, 2),
     ] {
-        tally.note(rt, what, Outcome::Number(expected), class_of(record.class(d)))?;
+        tally.note(
+            rt,
+            what,
+            Outcome::Number(expected),
+            class_of(record.class(d)),
+        )?;
     }
     Ok(())
 }
@@ -78,14 +109,50 @@ pub fn registers(rt: &LibcRuntime, tally: &mut Tally) -> Result<(), AnyError> {
         classes: &[1],
     };
     for (what, c, d, h, expected) in [
-        ("register round from 999,999,990 to 9", 0, 0, 1, Outcome::Number(19)),
-        ("register load 20,000,000", 0, 0, 2, Outcome::Number(20_000_000)),
+        (
+            "register round from 999,999,990 to 9",
+            0,
+            0,
+            1,
+            Outcome::Number(19),
+        ),
+        (
+            "register load 20,000,000",
+            0,
+            0,
+            2,
+            Outcome::Number(20_000_000),
+        ),
         ("register load 20,000,001", 0, 0, 3, Outcome::Missing),
-        ("register round from 999,999,999 to 0", 0, 0, 5, Outcome::Number(1)),
-        ("register up to a reading of 1,000,000,000", 0, 0, 6, Outcome::Missing),
-        ("register from a reading of 1,000,000,000", 0, 0, 7, Outcome::Missing),
+        (
+            "register round from 999,999,999 to 0",
+            0,
+            0,
+            5,
+            Outcome::Number(1),
+        ),
+        (
+            "register up to a reading of 1,000,000,000",
+            0,
+            0,
+            6,
+            Outcome::Missing,
+        ),
+        (
+            "register from a reading of 1,000,000,000",
+            0,
+            0,
+            7,
+            Outcome::Missing,
+        ),
         ("register backward by 1", 0, 0, 8, Outcome::Missing),
-        ("register of the next customer's first hour", 1, 0, 1, Outcome::Number(7)),
+        (
+            "register of the next customer's first hour",
+            1,
+            0,
+            1,
+            Outcome::Number(7),
+        ),
         ("register past the list's end", 1, 0, 2, Outcome::Missing),
         ("register in hour 0", 1, 0, 0, Outcome::Missing),
         ("register in hour 25", 0, 0, 25, Outcome::Missing),
@@ -94,7 +161,12 @@ pub fn registers(rt: &LibcRuntime, tally: &mut Tally) -> Result<(), AnyError> {
     ] {
         tally.note(rt, what, expected, load_of(record.load(c, d, h)))?;
     }
-    tally.note(rt, "register's class of byte 1", Outcome::Number(1), class_of(record.class(0)))
+    tally.note(
+        rt,
+        "register's class of byte 1",
+        Outcome::Number(1),
+        class_of(record.class(0)),
+    )
 }
 
 // The left-out layer, over a lent record.
@@ -116,9 +188,29 @@ pub fn left_out(rt: &LibcRuntime, tally: &mut Tally) -> Result<(), AnyError> {
         ("day 96 stands", 0, 96, 0),
         ("a day of customer 16 stands", 16, 1, 0),
     ] {
-        tally.note(rt, what, Outcome::Number(expected), said(standing.stands(c, d)))?;
+        tally.note(
+            rt,
+            what,
+            Outcome::Number(expected),
+            said(standing.stands(c, d)),
+        )?;
     }
-    tally.note(rt, "a left-out day's load passes", Outcome::Number(7), load_of(standing.load(0, 0, 1)))?;
-    tally.note(rt, "a left-out day's class passes", Outcome::Number(1), class_of(standing.class(0)))?;
-    tally.note(rt, "the lent record stands on that day", Outcome::Number(1), said(record.stands(0, 0)))
+    tally.note(
+        rt,
+        "a left-out day's load passes",
+        Outcome::Number(7),
+        load_of(standing.load(0, 0, 1)),
+    )?;
+    tally.note(
+        rt,
+        "a left-out day's class passes",
+        Outcome::Number(1),
+        class_of(standing.class(0)),
+    )?;
+    tally.note(
+        rt,
+        "the lent record stands on that day",
+        Outcome::Number(1),
+        said(record.stands(0, 0)),
+    )
 }

@@ -52,7 +52,10 @@ impl Desk {
     fn tell_again(&mut self, total: u32, others: &[u32]) -> Outcome
         ensures keeps { λ _. ⌜ Keeps (on-desk (now (self .entry))) (on-desk (now (self .exit))) ⌝ }
     {
-        answered(self.book.tell(&self.lines, &self.charges, 1, 11, total, others))
+        answered(
+            self.book
+                .tell(&self.lines, &self.charges, 1, 11, total, others),
+        )
     }
 
     // Allots hour 11 of day 1.
@@ -119,8 +122,18 @@ pub fn corrections(rt: &LibcRuntime, tally: &mut Tally) -> Result<(), AnyError> 
     let mut desk = allotted();
     for (what, day, hour, expected) in [
         ("reopen on day 0", 0, 11, Outcome::Refused(10)),
-        ("reopen an hour that is not allotted", 1, 12, Outcome::Refused(17)),
-        ("reopen an allotted hour and finish it", 1, 11, Outcome::Granted),
+        (
+            "reopen an hour that is not allotted",
+            1,
+            12,
+            Outcome::Refused(17),
+        ),
+        (
+            "reopen an allotted hour and finish it",
+            1,
+            11,
+            Outcome::Granted,
+        ),
         ("reopen and finish it again", 1, 11, Outcome::Granted),
     ] {
         tally.note(rt, what, expected, again(&mut desk, day, hour))?;
@@ -129,11 +142,26 @@ pub fn corrections(rt: &LibcRuntime, tally: &mut Tally) -> Result<(), AnyError> 
     tally.note(rt, "buyer 2's charge after that", n, desk.charge(2, 1, 11))?;
     let (told, read) = told_meanwhile(&mut desk);
     tally.note(rt, "tell an hour in correction", Outcome::Granted, told)?;
-    tally.note(rt, "read a charge of an hour in correction", Outcome::Refused(17), read)?;
+    tally.note(
+        rt,
+        "read a charge of an hour in correction",
+        Outcome::Refused(17),
+        read,
+    )?;
     let n = Outcome::Number(40);
-    tally.note(rt, "buyer 1's charge after the correction", n, desk.charge(1, 1, 11))?;
+    tally.note(
+        rt,
+        "buyer 1's charge after the correction",
+        n,
+        desk.charge(1, 1, 11),
+    )?;
     let n = Outcome::Refused(15);
-    tally.note(rt, "allot an hour in correction", n, allotted_meanwhile(&mut desk))
+    tally.note(
+        rt,
+        "allot an hour in correction",
+        n,
+        allotted_meanwhile(&mut desk),
+    )
 }
 
 // Slips of another book.
@@ -143,9 +171,24 @@ pub fn other_books(rt: &LibcRuntime, tally: &mut Tally) -> Result<(), AnyError> 
     let n = Outcome::Refused(18);
     let (got, finished) = offered(&mut desk, &mut other);
     tally.note(rt, "an unopened book is offered a slip", n, got)?;
-    tally.note(rt, "the slip handed back is good", Outcome::Granted, finished)?;
+    tally.note(
+        rt,
+        "the slip handed back is good",
+        Outcome::Granted,
+        finished,
+    )?;
     let mut other = allotted();
     let (got, finished) = offered(&mut desk, &mut other);
-    tally.note(rt, "a book of the same number whose hour is not in correction is offered a slip", n, got)?;
-    tally.note(rt, "the slip handed back is good again", Outcome::Granted, finished)
+    tally.note(
+        rt,
+        "a book of the same number whose hour is not in correction is offered a slip",
+        n,
+        got,
+    )?;
+    tally.note(
+        rt,
+        "the slip handed back is good again",
+        Outcome::Granted,
+        finished,
+    )
 }

@@ -71,18 +71,53 @@ fn mean_on(text: &str, days: &[u32], day: u32) -> Outcome {
 pub fn means(rt: &LibcRuntime, tally: &mut Tally) -> Result<(), AnyError> {
     let ten = [1, 2, 3, 4, 5, 6, 7, 8, 9, 10];
     let n = Outcome::Number(35);
-    tally.note(rt, "max45 of 10, 20, 30, 40, 50", n, mean_on("max45", &[10, 20, 30, 40, 50], 5))?;
+    tally.note(
+        rt,
+        "max45 of 10, 20, 30, 40, 50",
+        n,
+        mean_on("max45", &[10, 20, 30, 40, 50], 5),
+    )?;
     let n = Outcome::Number(2);
-    tally.note(rt, "max45 of 1, 2, 2, 2, 1", n, mean_on("max45", &[1, 2, 2, 2, 1], 5))?;
+    tally.note(
+        rt,
+        "max45 of 1, 2, 2, 2, 1",
+        n,
+        mean_on("max45", &[1, 2, 2, 2, 1], 5),
+    )?;
     let n = Outcome::Number(35);
-    tally.note(rt, "mid46 of 10 to 50 and 61", n, mean_on("mid46", &[10, 20, 30, 40, 50, 61], 6))?;
-    tally.note(rt, "mid610 of 1 to 10", Outcome::Number(6), mean_on("mid610", &ten, 10))?;
-    tally.note(rt, "mid810 of 1 to 10", Outcome::Number(6), mean_on("mid810", &ten, 10))?;
+    tally.note(
+        rt,
+        "mid46 of 10 to 50 and 61",
+        n,
+        mean_on("mid46", &[10, 20, 30, 40, 50, 61], 6),
+    )?;
+    tally.note(
+        rt,
+        "mid610 of 1 to 10",
+        Outcome::Number(6),
+        mean_on("mid610", &ten, 10),
+    )?;
+    tally.note(
+        rt,
+        "mid810 of 1 to 10",
+        Outcome::Number(6),
+        mean_on("mid810", &ten, 10),
+    )?;
     let n = Outcome::Because(1);
-    tally.note(rt, "max45 over four days", n, mean_on("max45", &[10, 20, 30, 40], 4))?;
+    tally.note(
+        rt,
+        "max45 over four days",
+        n,
+        mean_on("max45", &[10, 20, 30, 40], 4),
+    )?;
     tally.note(rt, "mid610 over nine days", n, mean_on("mid610", &ten, 9))?;
     tally.note(rt, "hmax45 over workdays", n, mean_on("hmax45", &ten, 10))?;
-    tally.note(rt, "max45 on day 96", Outcome::Because(3), mean_on("max45", &ten, 96))
+    tally.note(
+        rt,
+        "max45 on day 96",
+        Outcome::Because(3),
+        mean_on("max45", &ten, 96),
+    )
 }
 
 // Marks of the newest days before day 11, as many as are said.
@@ -117,9 +152,24 @@ fn reached(left_out: usize) -> Outcome {
 
 // The reach counts days that do not stand.
 pub fn reach(rt: &LibcRuntime, tally: &mut Tally) -> Result<(), AnyError> {
-    tally.note(rt, "max45 with none left out", Outcome::Number(85), reached(0))?;
-    tally.note(rt, "max45 with five left out, ten in reach", Outcome::Number(35), reached(5))?;
-    tally.note(rt, "reach counts days that do not stand: six left out", Outcome::Because(1), reached(6))
+    tally.note(
+        rt,
+        "max45 with none left out",
+        Outcome::Number(85),
+        reached(0),
+    )?;
+    tally.note(
+        rt,
+        "max45 with five left out, ten in reach",
+        Outcome::Number(35),
+        reached(5),
+    )?;
+    tally.note(
+        rt,
+        "reach counts days that do not stand: six left out",
+        Outcome::Because(1),
+        reached(6),
+    )
 }
 
 // Five days with equal loads in hour 11 and, oldest first, 100, 1, 1, 1, 1 in hour 9; the last lacks hour 8, the first hour 7.
@@ -151,9 +201,24 @@ fn of_equal_days(hour: u32, at: u32) -> Outcome {
 // Which of equal days is struck, and causes of a profile.
 pub fn profiles(rt: &LibcRuntime, tally: &mut Tally) -> Result<(), AnyError> {
     for (what, h, g, expected) in [
-        ("of equal loads the older day is struck", 11, 9, Outcome::Number(1)),
-        ("a day that is left lacks the load in hour g", 11, 8, Outcome::Because(2)),
-        ("a struck day lacks the load in hour g", 11, 7, Outcome::Number(3)),
+        (
+            "of equal loads the older day is struck",
+            11,
+            9,
+            Outcome::Number(1),
+        ),
+        (
+            "a day that is left lacks the load in hour g",
+            11,
+            8,
+            Outcome::Because(2),
+        ),
+        (
+            "a struck day lacks the load in hour g",
+            11,
+            7,
+            Outcome::Number(3),
+        ),
         ("a profile with hour 0", 0, 9, Outcome::Because(3)),
         ("a profile with hour 25", 25, 9, Outcome::Because(3)),
         ("a profile with hour g 0", 11, 0, Outcome::Because(3)),
@@ -171,21 +236,55 @@ pub fn filed(rt: &LibcRuntime, tally: &mut Tally) -> Result<(), AnyError> {
         loads: &[0; 4],
     };
     for (what, c, d, h, expected) in [
-        ("filed baseline 40,000,000", 0, 0, 1, Outcome::Number(40_000_000)),
+        (
+            "filed baseline 40,000,000",
+            0,
+            0,
+            1,
+            Outcome::Number(40_000_000),
+        ),
         ("filed baseline 40,000,001", 0, 0, 2, Outcome::Because(2)),
-        ("filed baseline -40,000,000", 0, 0, 3, Outcome::Number(-40_000_000)),
+        (
+            "filed baseline -40,000,000",
+            0,
+            0,
+            3,
+            Outcome::Number(-40_000_000),
+        ),
         ("filed baseline -40,000,001", 0, 0, 4, Outcome::Because(2)),
-        ("filed baseline past the list's end", 0, 0, 5, Outcome::Because(2)),
+        (
+            "filed baseline past the list's end",
+            0,
+            0,
+            5,
+            Outcome::Because(2),
+        ),
         ("filed baseline in hour 0", 0, 0, 0, Outcome::Because(3)),
         ("filed baseline on day 96", 0, 96, 1, Outcome::Because(3)),
-        ("filed baseline of customer 16", 16, 0, 1, Outcome::Because(3)),
+        (
+            "filed baseline of customer 16",
+            16,
+            0,
+            1,
+            Outcome::Because(3),
+        ),
     ] {
         tally.note(rt, what, expected, baseline_of(source.baseline(c, d, h)))?;
     }
     let n = Outcome::Because(2);
-    tally.note(rt, "filed profile in range", n, profile_of(source.profile(0, 0, 1, 1)))?;
+    tally.note(
+        rt,
+        "filed profile in range",
+        n,
+        profile_of(source.profile(0, 0, 1, 1)),
+    )?;
     let n = Outcome::Because(3);
-    tally.note(rt, "filed profile with hour g 25", n, profile_of(source.profile(0, 0, 1, 25)))
+    tally.note(
+        rt,
+        "filed profile with hour g 25",
+        n,
+        profile_of(source.profile(0, 0, 1, 25)),
+    )
 }
 
 // The baseline of hour h on day 5, adjusted for a start: 200 on each day before, and on day 5 in hour 2 a gap over 200.
@@ -224,7 +323,12 @@ pub fn adjusted(rt: &LibcRuntime, tally: &mut Tally) -> Result<(), AnyError> {
         ("start 25 adjusts nothing", 25, 29, 5, 200),
         ("start 255 adjusts nothing", 255, 29, 5, 200),
     ] {
-        tally.note(rt, what, Outcome::Number(expected), adjusted_on(start, gap, hour))?;
+        tally.note(
+            rt,
+            what,
+            Outcome::Number(expected),
+            adjusted_on(start, gap, hour),
+        )?;
     }
     Ok(())
 }
@@ -249,7 +353,17 @@ pub fn adjusting_days(rt: &LibcRuntime, tally: &mut Tally) -> Result<(), AnyErro
         starts: &[5; 6],
     };
     let what = "the adjusting hours go over the days chosen for the start hour";
-    tally.note(rt, what, Outcome::Number(200), baseline_of(source.baseline(0, 5, 5)))?;
+    tally.note(
+        rt,
+        what,
+        Outcome::Number(200),
+        baseline_of(source.baseline(0, 5, 5)),
+    )?;
     let what = "a day without a start byte is not adjusted";
-    tally.note(rt, what, Outcome::Number(200), baseline_of(source.baseline(0, 6, 5)))
+    tally.note(
+        rt,
+        what,
+        Outcome::Number(200),
+        baseline_of(source.baseline(0, 6, 5)),
+    )
 }
