@@ -15,7 +15,7 @@ use table::lines::ResourceLine;
 use table::lines::ResourceLinePartialEq;
 
 // A plan of 1,000,000 Wh at 120.50 won per kWh.
-const PLANNED: Terms = Terms {
+pub(crate) const PLANNED: Terms = Terms {
     plan: 1_000_000,
     order: 0,
     emergency: false,
@@ -25,7 +25,7 @@ const PLANNED: Terms = Terms {
 };
 
 // What stood in the list of charges before it was handed in.
-const OLD: BuyerLine = BuyerLine {
+pub(crate) const OLD: BuyerLine = BuyerLine {
     charge: 7,
     refund: -7,
 };
@@ -39,7 +39,7 @@ fn source() -> FiledSource<'static> {
 }
 
 // A book of May with one resource and three buyers; hour 11 of day 1 is told, settled and allotted, hour 12 told and settled.
-fn prepare(
+pub(crate) fn prepare(
     book: &mut Book,
     lines: &mut [ResourceLine],
     charges: &mut [BuyerLine],
