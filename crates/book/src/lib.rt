@@ -5,7 +5,7 @@ pub mod energies;
 pub mod hour;
 pub mod open;
 mod place;
-mod read;
+pub mod read;
 pub mod reconcile;
 pub mod register;
 mod rows;
