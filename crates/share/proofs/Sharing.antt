@@ -13,7 +13,7 @@ use Rattle.std.proofs.shelf.Signed.{ints, clamps}
 use Rattle.std.specs.Numbers.{divEuclid, minZ, maxZ}
 use Rattle.std.specs.shelf.Lists.{sum}
 use Rattle.won.specs.Sums.{total-to}
-use Rattle.won.proofs.Floors.{mul-add, sub-mul, floor-low, floor-high, floor-grows, floor-shift}
+use Rattle.won.proofs.Floors.{mul-add, sub-mul, floor-low, floor-high, floor-grows, floor-shift, floor-whole}
 use Rattle.share.specs.Shares.{weight-before, part, share}
 use Rattle.share.specs.Laws.{Within-a-won, Between-nought-and}
 use Rattle.share.proofs.Weights.{weight-more, weight-all, weight-below, weight-within}
@@ -53,13 +53,6 @@ no-weight a ws k e =
     omega (arith, ints)
 
 -- all weight together brings the amount
-floor-whole : (a : ℤ) (t : ℕ) → 0 < t → divEuclid (a *ℤ pos t) (pos t) ≡ a
-floor-whole a t p =
-    let s = floor-shift (pos 0) a t p in
-    let e : pos 0 +ℤ a *ℤ pos t ≡ a *ℤ pos t = omega (arith, ints) in
-    let z : divEuclid (pos 0) (pos t) ≡ pos 0 = ap pos (zero-div t) in
-    sym (ap (λ y. divEuclid y (pos t)) e) ∙ (s ∙ (let r : divEuclid (pos 0) (pos t) +ℤ a ≡ a = omega (arith, ints) in r))
-
 whole : (a x : ℤ) (t : ℕ) → 0 < t → divEuclid (a *ℤ (x +ℤ pos t)) (pos t) ≡ divEuclid (a *ℤ x) (pos t) +ℤ a
 whole a x t p = ap (λ z. divEuclid z (pos t)) (mul-add a x (pos t)) ∙ floor-shift (a *ℤ x) a t p
 

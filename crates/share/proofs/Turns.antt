@@ -17,16 +17,17 @@ use Rattle.std.proofs.shelf.Sums.{sumBy-take-le}
 use Rattle.std.proofs.shelf.Tests.{cases-lt}
 use Rattle.std.specs.Numbers.{divEuclid, minZ, maxZ}
 use Rattle.std.specs.shelf.Lists.{sum}
-use Rattle.share.specs.Shares.{part, share}
+use Rattle.share.specs.Shares.{weight-before, share}
 use Rattle.share.proofs.Weights.{weight-more, weight-within}
 use Rattle.share.proofs.Sharing.{no-weight, share-within}
 
 -- the weight with one place more is at most the total
-pub weight-turn : (ws : List ℕ) (k u t : ℕ) → u ≡ sum (take k ws) → t ≡ sum ws → (u + getD ws k 0 ≡ sum (take (k + 1) ws)) × (u + getD ws k 0 ≤ t)
+pub weight-turn : (ws : List ℕ) (k u t : ℕ) → u ≡ weight-before ws k → t ≡ sum ws → (u + getD ws k 0 ≡ weight-before ws (k + 1)) × (u + getD ws k 0 ≤ t)
 weight-turn ws k u t e f = let m = weight-more ws k in let w = sumBy-take-le (λ x. x) ws (k + 1) in (omega arith, omega arith)
 
-pub part-from : (a b : ℤ) (ws : List ℕ) (k u t : ℕ) → b ≡ a → u ≡ sum (take k ws) → t ≡ sum ws → divEuclid (b *ℤ pos u) (pos t) ≡ part a ws k
-part-from a b ws k u t e f g = rw (e, f, g) refl
+-- the share as the code has it, by the weights before the place and up to it
+pub share-from : (a : ℤ) (ws : List ℕ) (k b u t : ℕ) → b ≡ weight-before ws k → u ≡ weight-before ws (k + 1) → t ≡ sum ws → divEuclid (a *ℤ pos u) (pos t) -ℤ divEuclid (a *ℤ pos b) (pos t) ≡ share a ws k
+share-from a ws k b u t e f g = rw (e, f, g) refl
 
 between-fits : (a s : ℤ) → SFits w64 a → (minZ a (pos 0) ≤ℤ s) × (s ≤ℤ maxZ a (pos 0)) → SFits w64 s
 between-fits a s f h = omega (arith, ints, clamps)
@@ -54,18 +55,15 @@ each-share a ws k xs h s j = ⊎-elim (s .1 j) (λ p. s .2 j p ∙ sym (no-weigh
 pub each-nothing : (a : ℤ) (ws : List ℕ) (xs : List ℤ) → sum ws ≡ 0 → Shared-upto a ws 0 xs → (j : ℕ) → getD xs j (pos 0) ≡ share a ws j
 each-nothing a ws xs z s j = s .2 j zero-le ∙ sym (no-weight a ws j (let w = weight-within ws j in omega arith))
 
-difference : (a y z : ℤ) (ws : List ℕ) (k : ℕ) → y ≡ part a ws (k + 1) → z ≡ part a ws k → y -ℤ z ≡ share a ws k
-difference a y z ws k e f = cc
+passed-fits : (r s : ℤ) → r ≡ s → SFits w64 s → SFits w64 (toZ w128 (ofZ w128 r))
+passed-fits r s e f = omega (arith, ints)
 
-small-fits : (d s : ℤ) → d ≡ s → SFits w64 s → SFits w64 (toZ w128 (ofZ w128 d))
-small-fits d s e f = omega (arith, ints)
-
-small-is : (d s : ℤ) → d ≡ s → SFits w64 s → toZ w64 (ofZ w64 (toZ w128 (ofZ w128 d))) ≡ s
-small-is d s e f = omega (arith, ints)
+passed-is : (r s : ℤ) → r ≡ s → SFits w64 s → toZ w64 (ofZ w64 (toZ w128 (ofZ w128 r))) ≡ s
+passed-is r s e f = omega (arith, ints)
 
 -- what a turn writes fits, and is the share
-pub written-fits : (a y z : ℤ) (ws : List ℕ) (k : ℕ) → SFits w64 a → y ≡ part a ws (k + 1) → z ≡ part a ws k → SFits w64 (toZ w128 (ofZ w128 (y -ℤ z)))
-written-fits a y z ws k f e g = small-fits _ _ (difference a y z ws k e g) (share-fits a ws k f)
+pub written-fits : (a r : ℤ) (ws : List ℕ) (k : ℕ) → SFits w64 a → r ≡ share a ws k → SFits w64 (toZ w128 (ofZ w128 r))
+written-fits a r ws k f e = passed-fits r (share a ws k) e (share-fits a ws k f)
 
-pub written-is : (a y z : ℤ) (ws : List ℕ) (k : ℕ) → SFits w64 a → y ≡ part a ws (k + 1) → z ≡ part a ws k → toZ w64 (ofZ w64 (toZ w128 (ofZ w128 (y -ℤ z)))) ≡ share a ws k
-written-is a y z ws k f e g = small-is _ _ (difference a y z ws k e g) (share-fits a ws k f)
+pub written-is : (a r : ℤ) (ws : List ℕ) (k : ℕ) → SFits w64 a → r ≡ share a ws k → toZ w64 (ofZ w64 (toZ w128 (ofZ w128 r))) ≡ share a ws k
+written-is a r ws k f e = passed-is r (share a ws k) e (share-fits a ws k f)

@@ -1,7 +1,7 @@
 // One table over lines of either sort; a place past the list's end reads as an empty line and is not written.
 ghost use mathlib.Core.Path.{_≡_};
 ghost use Prim.Native.Nat.{_+_, _*_, _^_, _<_, _≤_, min};
-ghost use lib.IntN.{natAbs};
+ghost use lib.IntN.{natAbs, _+ℤ_};
 ghost use lib.ListN.{length, getD, set};
 ghost use denote.Ref.{name};
 ghost use Rattle.won.specs.Sums.{total-to};
@@ -58,20 +58,31 @@ pub fn line_at<L: Amounts>(lines: &[L], width: u32, hour: u32, column: u32) -> L
     line_of(lines, place_of(width, hour, column))
 }
 
+// The sums with one line more.
+fn with_line<L: Amounts>(sums: Sums, line: L) -> Sums
+    requires small { ⌜ natAbs (sums .due) ≤ 2 ^ 126 ⌝ ∗ ⌜ natAbs (sums .back) ≤ 2 ^ 126 ⌝ }
+    ensures due { λ r. ⌜ r .due ≡ sums .due +ℤ L·Amounts .due line ⌝ }
+    ensures back { λ r. ⌜ r .back ≡ sums .back +ℤ L·Amounts .back line ⌝ }
+    ensures bounded { λ r. ⌜ natAbs (L·Amounts .due line) ≤ L·Amounts .most ⌝ ∗ ⌜ natAbs (L·Amounts .back line) ≤ L·Amounts .most ⌝ }
+    ensures narrow { λ r. ⌜ natAbs (L·Amounts .due line) ≤ 2 ^ 63 ⌝ ∗ ⌜ natAbs (L·Amounts .back line) ≤ 2 ^ 63 ⌝ }
+{
+    Sums {
+        due: sums.due + line.due() as i128,
+        back: sums.back + line.back() as i128,
+    }
+}
+
 // What an hour's row comes to.
 pub fn row_sums<L: Amounts>(lines: &[L], width: u32, hour: u32) -> Sums
     ensures due { λ r. ⌜ r .due ≡ total-to width (λ k. L·Amounts .due (getD (now (lines .entry)) (hour * width + k) (L·Amounts .empty))) ⌝ }
     ensures back { λ r. ⌜ r .back ≡ total-to width (λ k. L·Amounts .back (getD (now (lines .entry)) (hour * width + k) (L·Amounts .empty))) ⌝ }
     ensures bounded { λ r. ⌜ (natAbs (r .due) ≤ width * L·Amounts .most) × (natAbs (r .back) ≤ width * L·Amounts .most) ⌝ }
 {
-    let mut due = 0i128;
-    let mut back = 0i128;
+    let mut sums = Sums { due: 0, back: 0 };
     for column in 0..width {
-        let line = line_at(lines, width, hour, column);
-        due += line.due() as i128;
-        back += line.back() as i128;
+        sums = with_line(sums, line_at(lines, width, hour, column));
     }
-    Sums { due, back }
+    sums
 }
 
 // A lent list of lines, with a row of `width` places for each hour.

@@ -1,7 +1,7 @@
 -- Laws of sums of signed amounts.
 use mathlib.Core.Path.{_≡_, refl, sym, ap, ap₂, subst, _∙_}
 use Prim.Native.Nat.{ℕ, zero, suc, _+_, _*_, _<_, _≤_}
-use native.Mathlib.Nat.{suc-mul}
+use native.Mathlib.Nat.{add-mul, suc-mul}
 use native.Mathlib.Numerals.{add-one}
 use native.Mathlib.Omega.{arith}
 use lib.IntN.{ℤ, pos, natAbs, _+ℤ_, _-ℤ_}
@@ -66,3 +66,15 @@ add-le s t u v h g = omega (arith, ints)
 pub total-grows : (n : ℕ) (f g : ℕ → ℤ) → ((k : ℕ) → k < n → f k ≤ℤ g k) → total-to n f ≤ℤ total-to n g
 total-grows zero f g h = omega (arith, ints)
 total-grows (suc n) f g h = add-le _ _ _ _ (total-grows n f g (λ k l. h k (omega arith))) (h n (omega arith))
+
+-- a loop's turn: s was the sum of n terms, v is the next term and t the sum with it
+pub total-turn : (n : ℕ) (f : ℕ → ℤ) (s v t : ℤ) → s ≡ total-to n f → v ≡ f n → t ≡ s +ℤ v → t ≡ total-to (n + 1) f
+total-turn n f s v t p q r = let m = total-more n f in cc
+
+-- and no term is further from nought than m
+pub within-turn : (n m : ℕ) (s v t : ℤ) → natAbs s ≤ n * m → natAbs v ≤ m → t ≡ s +ℤ v → natAbs t ≤ (n + 1) * m
+within-turn n m s v t h g e = let d = add-mul n 1 m in omega (arith, ints)
+
+-- where the index at the loop's end is the count
+pub total-end : (n m b : ℕ) (f : ℕ → ℤ) (s : ℤ) → n ≡ m → s ≡ total-to n f → natAbs s ≤ n * b → (s ≡ total-to m f) × (natAbs s ≤ m * b)
+total-end n m b f s e p h = (p ∙ ap (λ k. total-to k f) e, subst (λ k. natAbs s ≤ k * b) e h)

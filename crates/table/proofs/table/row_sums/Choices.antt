@@ -7,7 +7,7 @@ use Rattle.table.proofs.table.row_sums.Given as given
 
 abbrev pub Inv-loop-column : given.InvT-loop-column
 Inv-loop-column g l =
-    (l .due ≡ total-to (l .column) (λ k. g .L·Amounts .due (getD (l .lines) (l .hour * l .width + k) (g .L·Amounts .empty))))
-    × (l .back ≡ total-to (l .column) (λ k. g .L·Amounts .back (getD (l .lines) (l .hour * l .width + k) (g .L·Amounts .empty))))
-    × (natAbs (l .due) ≤ l .column * 2 ^ 63) × (natAbs (l .back) ≤ l .column * 2 ^ 63)
-    × (natAbs (l .due) ≤ l .column * g .L·Amounts .most) × (natAbs (l .back) ≤ l .column * g .L·Amounts .most)
+    (l .sums .due ≡ total-to (l .column) (λ k. g .L·Amounts .due (getD (l .lines) (l .hour * l .width + k) (g .L·Amounts .empty))))
+    × (l .sums .back ≡ total-to (l .column) (λ k. g .L·Amounts .back (getD (l .lines) (l .hour * l .width + k) (g .L·Amounts .empty))))
+    × (natAbs (l .sums .due) ≤ l .column * 2 ^ 63) × (natAbs (l .sums .back) ≤ l .column * 2 ^ 63)
+    × (natAbs (l .sums .due) ≤ l .column * g .L·Amounts .most) × (natAbs (l .sums .back) ≤ l .column * g .L·Amounts .most)
