@@ -2,6 +2,7 @@
 pub mod book;
 pub mod energies;
 pub mod hour;
+mod look;
 pub mod open;
 mod place;
 pub mod reconcile;
