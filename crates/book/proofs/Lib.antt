@@ -5,6 +5,6 @@ mod Sound
 mod Slips
 mod History
 mod Decided
-mod Balance
+pub mod Balance
 mod Alls
 mod Entered

@@ -5,6 +5,10 @@ use Prim.Native.Nat.{ℕ, _+_, _-_, _≤_, _<_}
 use native.Mathlib.Omega.{arith}
 use lib.ListN.{length, take, drop, set, length-append, length-drop, take-append-drop}
 use Rattle.std.proofs.shelf.Lists.{append-nil, drop-drop, drop-set-lt, take-more-set}
+use Rattle.std.specs.declared.result.Result.the-variants.{Ok}
+use Rattle.std.proofs.shelf.Tests.{le-ltb}
+use Rattle.book.specs.Seen.{granted-or}
+use Rattle.sheet.specs.Written.{short-buffer, written-by}
 use Rattle.sheet.specs.Tape.{Tape, after, page-tape}
 
 same-tape : (t u : Tape) → t .past ≡ u .past → t .ahead ≡ u .ahead → t .memory ≡ u .memory → t ≡ u
@@ -47,3 +51,10 @@ page-whole buffer last text next m n e =
     let back : drop next last ≡ drop (length text) buffer = ap (λ t. t .ahead) e in
     let whole = take-append-drop next last in
     cc
+
+-- a text for which there is room
+pub answer-fits : (buffer text : List ℕ) (n : ℕ) → length text ≤ length buffer → n ≡ length text → Ok n ≡ granted-or (short-buffer text buffer) (length text)
+answer-fits buffer text n h e = rw (le-ltb (length buffer) (length text) h) (ap Ok e)
+
+pub written-fits : (buffer last text : List ℕ) → length text ≤ length buffer → last ≡ text ++ drop (length text) buffer → last ≡ written-by (short-buffer text buffer) text buffer
+written-fits buffer last text h e = rw (le-ltb (length buffer) (length text) h) e

@@ -9,7 +9,7 @@ pub(crate) struct Page<'a> {
     pub(crate) next: usize,
 }
 
-impl Sink for Page<'_> as PageSink {
+pub(crate) impl Sink for Page<'_> as PageSink {
     ghost tape = { λ p. page-tape (now (p .buffer)) (p .next) (name (p .buffer)) };
 
     fn put(&mut self, byte: u8) {
