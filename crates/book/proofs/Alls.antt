@@ -23,4 +23,3 @@ all-fails k (suc n) f l e =
 -- what holds of all holds of each
 pub all-each : (k n : ℕ) (f : ℕ → Bool) → k < n → all-to n f ≡ true → f k ≡ true
 all-each k n f l e = ⊎-elim (λ t. t) (λ q. absurd (both-ways (all-to n f) (all-fails k n f l q) e)) (cases-bool (f k))
-

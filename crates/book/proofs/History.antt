@@ -68,7 +68,7 @@ none-allotted (Told e) = refl
 none-allotted (Allotted e) = refl
 none-allotted (Correcting e) = refl
 
-allotted-corrects : {E : Type 0} (x : Hour E) → is-allotted x ≡ true → is-correcting (as-correcting x) ≡ true
+pub allotted-corrects : {E : Type 0} (x : Hour E) → is-allotted x ≡ true → is-correcting (as-correcting x) ≡ true
 allotted-corrects Blank q = absurd (both-ways false refl q)
 allotted-corrects (Told e) q = refl
 allotted-corrects (Allotted e) q = refl
@@ -80,7 +80,7 @@ not-correcting (Told e) q = refl
 not-correcting (Allotted e) q = refl
 not-correcting (Correcting e) q = absurd (both-ways false refl q)
 
-anew-correcting : {E : Type 0} (x : Hour E) (e : E) → is-correcting (told-anew x e) ≡ is-correcting x
+pub anew-correcting : {E : Type 0} (x : Hour E) (e : E) → is-correcting (told-anew x e) ≡ is-correcting x
 anew-correcting Blank e = refl
 anew-correcting (Told d) e = refl
 anew-correcting (Allotted d) e = refl

@@ -152,6 +152,10 @@ with-energies b h e = record {
   charges = b .charges;
 }
 
+-- another state of hour h
+abbrev pub with-hour : State → ℕ → Hour Energies → State
+with-hour b h hour = record { register = b .register; hours = set (b .hours) h hour; lines = b .lines; charges = b .charges }
+
 -- another line of resource r in hour h
 abbrev pub with-line : State → ℕ → ℕ → ResourceLine → State
 with-line b h r line = record {

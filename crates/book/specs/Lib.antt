@@ -5,5 +5,6 @@ pub mod Calls
 pub mod Opening
 pub mod Runs
 pub mod Reconciled
+pub mod Bounds
 pub mod Readings
 pub mod Seen

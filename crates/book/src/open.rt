@@ -10,11 +10,11 @@ use crate::hour::Hour;
 use crate::register::Register;
 use crate::register::Registration;
 use crate::register::entered_classes;
+use crate::rows::clear_charges;
+use crate::rows::clear_lines;
 use refusal::Refusal;
 use table::lines::BuyerLine;
 use table::lines::ResourceLine;
-use crate::rows::clear_charges;
-use crate::rows::clear_lines;
 
 // What a book is opened with; a day's class is 0 for a workday and 1 for a holiday, the first day is its number in the sources.
 #[derive(Clone, Copy)]
@@ -152,19 +152,16 @@ impl Book {
             return Err(Refusal::BuyerCount);
         }
         let hours = opening.classes.len() * 24;
-        if lines.len() < hours * opening.resources.len() || charges.len() < hours * opening.buyers as usize {
+        if lines.len() < hours * opening.resources.len()
+            || charges.len() < hours * opening.buyers as usize
+        {
             return Err(Refusal::ShortLists);
         }
         Ok(())
     }
 
     // Makes this a book just opened.
-    fn begin(
-        &mut self,
-        opening: Opening,
-        lines: &mut [ResourceLine],
-        charges: &mut [BuyerLine],
-    )
+    fn begin(&mut self, opening: Opening, lines: &mut [ResourceLine], charges: &mut [BuyerLine])
         requires { ⌜ length (now (opening .classes)) ≤ 31 ⌝ }
         requires { ⌜ length (now (opening .resources)) ≤ 16 ⌝ }
         requires { ⌜ opening .buyers ≤ 8 ⌝ }

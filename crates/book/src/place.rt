@@ -33,7 +33,6 @@ impl Book {
             || charges.len() < hours * self.register.buyers as usize
     }
 
-
     // The number of the hour that a call names.
     pub(crate) fn hour_place(
         &self,

@@ -1,7 +1,7 @@
 // Rows of the two lists, each by one table.
 ghost use mathlib.Core.Path.{_≡_};
-ghost use Prim.Native.Nat.{_+_, _*_, _≤_};
-ghost use lib.ListN.{set};
+ghost use Prim.Native.Nat.{_+_, _*_, _≤_, min};
+ghost use lib.ListN.{length, getD, set};
 ghost use Rattle.table.specs.Lines.{no-line, no-charge};
 ghost use Rattle.table.specs.Tables.{filled};
 use table::lines::BuyerAmounts;
@@ -46,4 +46,12 @@ pub(crate) fn put_line(
 {
     let mut table = Table::new(lines, width);
     table.put(hour, resource, line);
+}
+
+// Writes the charges of an hour.
+pub(crate) fn put_row(charges: &mut [BuyerLine], width: u32, hour: u32, row: &[BuyerLine])
+    ensures value { λ _. ⌜ now (charges .exit) ≡ filled (now (charges .entry)) (hour * width) (min width (length (now (row .entry)))) (λ k. getD (now (row .entry)) k no-charge) ⌝ }
+{
+    let mut table = Table::new(charges, width);
+    table.put_row(hour, row);
 }

@@ -9,6 +9,8 @@ use crate::fault::Fault;
 use crate::fault::FaultFromAlloc;
 use crate::fields::Fields;
 use crate::fields::word_of;
+use crate::hour::Purchases;
+use crate::hour::Settling;
 use baseline::adjusted::Adjusted;
 use baseline::method::Method;
 use baseline::ranked::Ranked;
@@ -17,6 +19,8 @@ use load::left_out::LeftOut;
 use load::left_out::LeftOutDays;
 use load::loads::LoadRecord;
 use load::register::RegisterRecord;
+use settlement::terms::Kind;
+use settlement::terms::Terms;
 use std::alloc::AllocError;
 use std::alloc::Global;
 
@@ -37,6 +41,12 @@ const PLACES: usize = 36880;
 
 // Where nothing was read; as a load and as a reading it counts as missing.
 const NOTHING: u32 = 4_294_967_295;
+
+// A settle line has this many numbers before its marks.
+const TERMS: usize = 9;
+
+// The greatest total of an hour's energies, in kWh.
+const MOST_ENERGY: u32 = 150_000_000;
 
 // The byte of a day that is neither workday nor holiday.
 const NEITHER: u8 = 2;
@@ -59,6 +69,8 @@ pub struct Request {
     starts: [u8; 96],
     meter: Meter,
     numbers: Vec<u32>,
+    settling: Option<Settling>,
+    purchases: Option<Purchases>,
     ghost room: { vec-len numbers ≡ 36880 },
     ghost few: { customers ≤ 16 },
 }
@@ -94,6 +106,78 @@ fn mark_days(table: &mut [u8; 96], days: &[u32], byte: u8) -> Result<(), Fault> 
     Ok(())
 }
 
+// A mark: 0 or 1.
+fn mark_of(number: u32) -> Result<bool, Fault> {
+    match number {
+        0 => Ok(false),
+        1 => Ok(true),
+        _ => Err(Fault::OutOfRange),
+    }
+}
+
+// An hour to be settled: hour, kind, month, plan, order, emergency, test, SMP and MGP, then a taking-part mark for each customer.
+fn settling_of(numbers: &[u32]) -> Result<Settling, Fault> {
+    if numbers.len() < TERMS {
+        return Err(Fault::TooFewNumbers);
+    }
+    if numbers.len() > TERMS + 16 {
+        return Err(Fault::TooManyNumbers);
+    }
+    let Some(kind) = Kind::numbered(numbers[1]) else {
+        return Err(Fault::OutOfRange);
+    };
+    let terms = Terms {
+        plan: numbers[3],
+        order: numbers[4],
+        emergency: mark_of(numbers[5])?,
+        test: mark_of(numbers[6])?,
+        smp: numbers[7],
+        mgp: numbers[8],
+    };
+    let mut marks = [0u8; 16];
+    for (k, mark) in numbers[9..].iter().enumerate() {
+        if mark_of(*mark)? && k < 16 {
+            marks[k] = 1;
+        }
+    }
+    Ok(Settling {
+        hour: numbers[0],
+        kind,
+        month: numbers[2],
+        terms,
+        marks,
+    })
+}
+
+// A total, then what each buyer but the retailer purchased of it; the rest is the retailer's.
+fn purchases_of(numbers: &[u32]) -> Result<Purchases, Fault> {
+    let Some(total) = numbers.first().copied() else {
+        return Err(Fault::TooFewNumbers);
+    };
+    if numbers.len() > 8 {
+        return Err(Fault::TooManyNumbers);
+    }
+    if total < 1 || total > MOST_ENERGY {
+        return Err(Fault::OutOfRange);
+    }
+    let mut bought = [0; 8];
+    let mut rest = total;
+    for k in 1..numbers.len() {
+        let Some(less) = rest.checked_sub(numbers[k]) else {
+            return Err(Fault::OutOfRange);
+        };
+        if k < 8 {
+            bought[k] = numbers[k];
+        }
+        rest = less;
+    }
+    bought[0] = rest;
+    Ok(Purchases {
+        bought,
+        buyers: numbers.len(),
+    })
+}
+
 impl Request {
     // A text with nothing in it yet: one customer, no day of a class, no load.
     fn new(heap: Global) -> Result<Request, AllocError> {
@@ -105,6 +189,8 @@ impl Request {
             starts: [0; 96],
             meter: Meter::Unread,
             numbers: vec![in heap; NOTHING; PLACES]?,
+            settling: None,
+            purchases: None,
         })
     }
 
@@ -197,6 +283,14 @@ impl Request {
                 self.metered_by(Meter::Readings)?;
                 self.read_meter(Meter::Readings, numbers)
             }
+            "settle" => {
+                self.settling = Some(settling_of(numbers)?);
+                Ok(())
+            }
+            "energy" => {
+                self.purchases = Some(purchases_of(numbers)?);
+                Ok(())
+            }
             _ => Err(Fault::UnknownWord),
         }
     }
@@ -239,6 +333,16 @@ impl Request {
 
     pub fn meter(&self) -> Meter {
         self.meter
+    }
+
+    // The hour to be settled, if the text names one.
+    pub fn settling(&self) -> Option<Settling> {
+        self.settling
+    }
+
+    // What the buyers purchased in that hour, if the text says so.
+    pub fn purchases(&self) -> Option<Purchases> {
+        self.purchases
     }
 
     // The numbers as hourly loads.

@@ -8,6 +8,11 @@ use lib.Signed.{_<ℤ_, _≤ℤ_}
 use Rattle.std.specs.Numbers.{minZ, maxZ}
 use Rattle.std.specs.shelf.Lists.{sum}
 use Rattle.won.specs.Sums.{total-to}
+use Rattle.share.specs.Shares.{share}
+
+-- each place has its share
+abbrev pub Each-share : ℤ → List ℕ → List ℤ → Type 0
+Each-share amount ws xs = (k : ℕ) → getD xs k (pos 0) ≡ share amount ws k
 
 -- the sixteen shares add up to the amount, if any weight is above 0
 abbrev pub Add-up : ℤ → List ℕ → List ℤ → Type 0

@@ -1,4 +1,5 @@
 // Shares of an amount of won, by weight.
+ghost use mathlib.Core.Bool.{true};
 ghost use mathlib.Core.Path.{_≡_};
 ghost use Prim.Native.Nat.{_*_, _^_, _<_, _≤_};
 ghost use lib.Dec.{leb};
@@ -6,17 +7,18 @@ ghost use lib.IntN.{pos, natAbs, _-ℤ_, _*ℤ_};
 ghost use lib.Signed.{_<ℤ_};
 ghost use lib.ListN.{length};
 ghost use Rattle.std.specs.Numbers.{divEuclid};
+ghost use Rattle.std.specs.Options.{isSome};
 ghost use Rattle.std.specs.Slices.{found};
 ghost use Rattle.std.specs.shelf.Lists.{sum};
 ghost use Rattle.share.specs.Shares.{shared};
-ghost use Rattle.share.specs.Laws.{Add-up, Near, Weightless-none, Within-amount, No-further};
+ghost use Rattle.share.specs.Laws.{Each-share, Add-up, Near, Weightless-none, Within-amount, No-further};
 
 // An amount is shared among this many places at most.
 pub const PLACES: usize = 16;
 
 // What the weights come to.
 fn total_of(weights: &[u32]) -> u64
-    requires { ⌜ length (now weights) ≤ 16 ⌝ }
+    requires few { ⌜ length (now weights) ≤ 16 ⌝ }
     ensures value { λ r. ⌜ r ≡ sum (now (weights .entry)) ⌝ }
     ensures bounded { λ r. ⌜ r < 2 ^ 36 ⌝ }
 {
@@ -66,6 +68,8 @@ fn have_places(weights: &[u32]) -> bool
 // The share of each place, 0 past the weights and where all weights are 0; none for more than 16 weights.
 pub fn share_out(amount: i64, weights: &[u32]) -> Option<[i64; 16]>
     ensures value { λ r. ⌜ r ≡ shared amount (now (weights .entry)) ⌝ }
+    ensures some { λ r. ⌜ (length (now (weights .entry)) ≤ 16 → isSome r ≡ true) ⌝ }
+    ensures each { λ r. ⌜ found r (Each-share amount (now (weights .entry))) ⌝ }
     ensures adds { λ r. ⌜ found r (Add-up amount (now (weights .entry))) ⌝ }
     ensures near { λ r. ⌜ found r (Near amount (now (weights .entry))) ⌝ }
     ensures none { λ r. ⌜ found r (Weightless-none (now (weights .entry))) ⌝ }

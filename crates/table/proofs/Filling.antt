@@ -1,6 +1,6 @@
 -- What stands in a list after lines were written from a place on.
 use mathlib.Core.Path.{_≡_, refl, sym, ap, _∙_}
-use mathlib.Core.Logic.{_≢_, ⊎-elim}
+use mathlib.Core.Logic.{_⊎_, inl, inr, ⊎-elim, _≢_}
 use mathlib.Core.List.{List, [], _∷_}
 use Prim.Native.Nat.{ℕ, zero, suc, _+_, _-_, _<_, _≤_, min}
 use native.Mathlib.Numerals.{add-one}
@@ -29,9 +29,9 @@ filled-same xs at (suc n) f g h =
     cc
 
 -- a place that was written
-pub filled-inside : {X : Type 0} (xs : List X) (at n k : ℕ) (f : ℕ → X) (d : X) → k < n → at + k < length xs → getD (filled xs at n f) (at + k) d ≡ f k
-filled-inside xs at zero k f d h l = absurd (omega arith)
-filled-inside xs at (suc n) k f d h l = ⊎-elim (λ m. before (filled-inside xs at n k f d m l) m) here (cases-lt k n)
+pub read-filled : {X : Type 0} (xs : List X) (at n k : ℕ) (f : ℕ → X) (d : X) → k < n → at + k < length xs → getD (filled xs at n f) (at + k) d ≡ f k
+read-filled xs at zero k f d h l = absurd (omega arith)
+read-filled xs at (suc n) k f d h l = ⊎-elim (λ m. before (read-filled xs at n k f d m l) m) here (cases-lt k n)
   where
     before : getD (filled xs at n f) (at + k) d ≡ f k → k < n → getD (filled xs at (suc n) f) (at + k) d ≡ f k
     before e m = let ne : at + k ≢ at + n = λ e. absurd (omega arith) in rw getD-set-other e
@@ -43,11 +43,9 @@ filled-inside xs at (suc n) k f d h l = ⊎-elim (λ m. before (filled-inside xs
         ap (λ j. getD (filled xs at (suc n) f) (at + j) d) (sym e) ∙ getD-set-same (filled xs at n f) (at + n) (f n) d long ∙ ap f e
 
 -- a place before or behind what was written
-pub filled-outside : {X : Type 0} (xs : List X) (at n i : ℕ) (f : ℕ → X) (d : X) → ((k : ℕ) → k < n → i ≢ at + k) → getD (filled xs at n f) i d ≡ getD xs i d
-filled-outside xs at zero i f d h = refl
-filled-outside xs at (suc n) i f d h =
-    let ne : i ≢ at + n = h n (omega arith) in
-    rw getD-set-other (filled-outside xs at n i f d (λ k l. h k (omega arith)))
+pub read-beside : {X : Type 0} (xs : List X) (at n i : ℕ) (f : ℕ → X) (d : X) → (i < at) ⊎ (at + n ≤ i) → getD (filled xs at n f) i d ≡ getD xs i d
+read-beside xs at zero i f d h = refl
+read-beside xs at (suc n) i f d h = getD-set-other (filled xs at n f) (at + n) i (f n) d (omega arith) ∙ read-beside xs at n i f d (⊎-elim (λ l. inl l) (λ l. inr (omega arith)) h)
 
 -- lines past the list's end change nothing
 pub filled-past : {X : Type 0} (xs : List X) (at n m : ℕ) (f : ℕ → X) → length xs ≤ at + n → filled xs at (n + m) f ≡ filled xs at n f

@@ -43,7 +43,7 @@ fn write<L: Amounts>(lines: &mut [L], place: usize, line: L)
 
 // Writes a row's lines from a place on, and empty lines past the row's end, `count` lines in all.
 fn fill<L: Amounts>(lines: &mut [L], from: usize, count: usize, row: &[L])
-    requires { ⌜ from + count < 2 ^ 64 ⌝ }
+    requires room { ⌜ from + count < 2 ^ 64 ⌝ }
     ensures value { λ _. ⌜ now (lines .exit) ≡ filled (now (lines .entry)) from count (λ k. getD (now (row .entry)) k (L·Amounts .empty)) ⌝ }
 {
     for k in 0..count.min(lines.len()) {
@@ -63,8 +63,8 @@ fn with_line<L: Amounts>(sums: Sums, line: L) -> Sums
     requires small { ⌜ natAbs (sums .due) ≤ 2 ^ 126 ⌝ ∗ ⌜ natAbs (sums .back) ≤ 2 ^ 126 ⌝ }
     ensures due { λ r. ⌜ r .due ≡ sums .due +ℤ L·Amounts .due line ⌝ }
     ensures back { λ r. ⌜ r .back ≡ sums .back +ℤ L·Amounts .back line ⌝ }
-    ensures bounded { λ r. ⌜ natAbs (L·Amounts .due line) ≤ L·Amounts .most ⌝ ∗ ⌜ natAbs (L·Amounts .back line) ≤ L·Amounts .most ⌝ }
-    ensures narrow { λ r. ⌜ natAbs (L·Amounts .due line) ≤ 2 ^ 63 ⌝ ∗ ⌜ natAbs (L·Amounts .back line) ≤ 2 ^ 63 ⌝ }
+    ensures bounded { λ _. ⌜ natAbs (L·Amounts .due line) ≤ L·Amounts .most ⌝ ∗ ⌜ natAbs (L·Amounts .back line) ≤ L·Amounts .most ⌝ }
+    ensures narrow { λ _. ⌜ natAbs (L·Amounts .due line) ≤ 2 ^ 63 ⌝ ∗ ⌜ natAbs (L·Amounts .back line) ≤ 2 ^ 63 ⌝ }
 {
     Sums {
         due: sums.due + line.due() as i128,

@@ -1,5 +1,5 @@
 use borrow.Author.Tests.{leb-true}
-use mathlib.Core.Path.{_≡_, sym, subst, _∙_}
+use mathlib.Core.Path.{_≡_, refl, sym, subst, _∙_}
 use Prim.Native.Nat.{ℕ, _+_, _≤_}
 use native.Mathlib.Omega.{arith}
 use lib.IntN.{ℤ, pos}
@@ -17,7 +17,7 @@ returns-then-total-eq0 c =
     let m : length (c .args .weights .now) ≤ 16 = leb-true _ _ (sym (c .if-not-have-places .ensures tt .value)) in
     let s = shared-none (c .args .amount) (c .args .weights .now) in
     let k = shared-out (c .args .amount) (c .args .weights .now) (replicate 16 (pos 0)) m (s .0) (each-nothing (c .args .amount) (c .args .weights .now) (replicate 16 (pos 0)) (sym (c .total-of-total .ensures .value) ∙ c .if-total-eq0 .taken) s) in
-    record { value = k .value; adds = k .adds; near = k .near; none = k .none; within = k .within; bounded = k .bounded }
+    record { value = k .value; some = λ _. refl; each = k .each; adds = k .adds; near = k .near; none = k .none; within = k .within; bounded = k .bounded }
 
 pub add-upto : need.add-upto
 add-upto c =
@@ -54,4 +54,4 @@ returns c =
     let P : ℤ → Type 0 = λ a. Shared-upto a (c .args .weights .now) (c .loop-k .k) (c .loop-k .shares) in
     let s : P (c .args .amount) = subst P (toZ-ofZ w64 (c .args .amount) (c .fits .amount)) (c .loop-k .inv .1) in
     let k = shared-out (c .args .amount) (c .args .weights .now) (c .loop-k .shares) m (s .0) (each-share (c .args .amount) (c .args .weights .now) (c .loop-k .k) (c .loop-k .shares) (c .loop-k-test .left) s) in
-    record { value = k .value; adds = k .adds; near = k .near; none = k .none; within = k .within; bounded = k .bounded }
+    record { value = k .value; some = λ _. refl; each = k .each; adds = k .adds; near = k .near; none = k .none; within = k .within; bounded = k .bounded }

@@ -1,0 +1,2 @@
+pub mod Workdays
+pub mod Figures
