@@ -1,4 +1,7 @@
 // Settles an hour of May, allots it, reconciles the month, and prints the evening sheet.
+ghost use Prim.Native.Nat.{_≤_};
+ghost use lib.ListN.{length};
+ghost use Rattle.std.specs.Vec.{made};
 use baseline::method::Method;
 use baseline::ranked::Ranked;
 use baseline::ranked::RankedBaselines;
@@ -55,7 +58,9 @@ fn terms() -> Terms {
 }
 
 // Runs the evening's calls, and writes the sheet.
-fn run(buffer: &mut [u8]) -> Result<usize, Refusal> {
+fn run(buffer: &mut [u8]) -> Result<usize, Refusal>
+    ensures bounded { λ r. ⌜ made r (λ n. n ≤ length (now (buffer .entry))) ⌝ }
+{
     let mut lines = [ResourceLine::Empty; 744];
     let mut charges = [BuyerLine {
         charge: 0,
@@ -84,13 +89,7 @@ fn run(buffer: &mut [u8]) -> Result<usize, Refusal> {
 fn main(rt: LibcRuntime) -> io::Result<()> {
     let mut buffer = [0; 512];
     match run(&mut buffer) {
-        Ok(length) => {
-            if length <= buffer.len() {
-                rt.stdout().write_all(&buffer[..length])
-            } else {
-                Ok(())
-            }
-        }
+        Ok(length) => rt.stdout().write_all(&buffer[..length]),
         Err(refusal) => {
             let number = refusal.number();
             println!(rt, "refused={number}")

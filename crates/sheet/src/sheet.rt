@@ -1,6 +1,8 @@
 // Writing the evening sheet.
 ghost use mathlib.Core.Path.{_≡_};
+ghost use Prim.Native.Nat.{_≤_};
 ghost use lib.ListN.{length};
+ghost use Rattle.std.specs.Vec.{made};
 ghost use Rattle.book.specs.Seen.{seen, granted-or};
 ghost use Rattle.sheet.specs.Text.{text-of};
 ghost use Rattle.sheet.specs.Written.{short-buffer, written-by, sheet-answer, sheet-written};
@@ -40,6 +42,7 @@ pub fn write_sheet(
 ) -> Result<usize, Refusal>
     ensures answer { λ r. ⌜ r ≡ sheet-answer (seen (now (book .entry)) (now (lines .entry)) (now (charges .entry))) (now (buffer .entry)) ⌝ }
     ensures buffer { λ _. ⌜ now (buffer .exit) ≡ sheet-written (seen (now (book .entry)) (now (lines .entry)) (now (charges .entry))) (now (buffer .entry)) ⌝ }
+    ensures bounded { λ r. ⌜ made r (λ n. n ≤ length (now (buffer .entry))) ⌝ }
     ensures balanced { λ _. ⌜ Balanced-sheet (seen (now (book .entry)) (now (lines .entry)) (now (charges .entry))) ⌝ }
 {
     if book.lacks_places(lines, charges) {
