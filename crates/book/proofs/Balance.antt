@@ -23,7 +23,8 @@ use Rattle.share.specs.Shares.{share}
 use Rattle.share.specs.Laws as shared
 use Rattle.share.proofs.Sharing.{share-near, shares-below-add-up}
 use Rattle.table.specs.Lines.{no-line, no-charge, paid-of, fined-of}
-use Rattle.table.proofs.Filling.{length-filled, filled-inside}
+use Rattle.table.proofs.Filling.{length-filled, read-filled}
+use Rattle.table.proofs.Rows.{row-within}
 use Rattle.book.specs.declared.energies.Energies.{Energies}
 use Rattle.book.specs.declared.hour.Hour.{Hour}
 use Rattle.book.specs.declared.hour.Hour.the-variants.{Blank, Told, Allotted, Correcting}
@@ -37,7 +38,7 @@ use Rattle.book.specs.Calls.Call.{tell, settle, withdraw, allot, reopen, finis
 use Rattle.book.specs.Opening.{Opening, month-has, plain-classes, from-to, opening-tests, opening-refusal, opened, register-of}
 use Rattle.book.specs.Runs.{noted, accepted, last-told, standing, last-allots, held, unspent, payments, fines, over-allotted, Balanced, Fair, Within-a-won, States-exact, Law}
 use Rattle.book.specs.Reconciled.{hour-sums, zeros, held-sums, sums-to, reconciled, by-calls, Upheld, Lawful}
-use Rattle.book.proofs.Places.{all-same, row-within}
+use Rattle.book.proofs.Places.{all-same}
 use Rattle.book.proofs.Purchases.{Sound-energies}
 use Rattle.book.proofs.Refused.{passed, not-refused, long-lists}
 use Rattle.book.proofs.Sound.{Sound}
@@ -99,7 +100,7 @@ kept-opened o u ok = record {
     told = λ h. ap energies-in (empty h);
     lines = λ h r lh lr.
         ap (λ j. getD (b .lines) j no-line) (sym (zero-add (h * s .enrolled + r)))
-        ∙ filled-inside (u .lines) 0 (hours-of s * s .enrolled) (h * s .enrolled + r) (λ _. no-line) no-line (omega (arith, row-within (s .enrolled) h (hours-of s) lh)) (omega (arith, ok .lines-long, row-within (s .enrolled) h (hours-of s) lh));
+        ∙ read-filled (u .lines) 0 (hours-of s * s .enrolled) (h * s .enrolled + r) (λ _. no-line) no-line (omega (arith, row-within (s .enrolled) h (hours-of s) lh)) (omega (arith, ok .lines-long, row-within (s .enrolled) h (hours-of s) lh));
     allots = λ h. ap is-allotted (empty h);
     slips = λ x. sym (ap (λ y. once (of-book s x && is-correcting y)) (empty (place (x .day) (x .hour))) ∙ never (of-book s x));
   };

@@ -17,7 +17,7 @@ use Rattle.share.proofs.Turns.{share-fits}
 use Rattle.table.specs.declared.lines.BuyerLine.{BuyerLine}
 use Rattle.table.specs.Lines.{no-charge}
 use Rattle.table.specs.Tables.{filled}
-use Rattle.table.proofs.Filling.{filled-same, filled-inside, length-filled}
+use Rattle.table.proofs.Filling.{filled-same, read-filled, length-filled}
 use Rattle.book.specs.Calls.{charges-of}
 
 -- the row of the shares
@@ -34,7 +34,7 @@ filled-from-row xs row at n f few e =
     let all : min n (length row) ≡ n = omega arith in
     ap (λ m. filled xs at m (λ k. getD row k no-charge)) all
     ∙ filled-same xs at n (λ k. getD row k no-charge) f
-    (λ k l. ap (λ r. getD r k no-charge) e ∙ ap (λ j. getD (filled (replicate 8 no-charge) 0 8 f) j no-charge) (sym (zero-add k)) ∙ filled-inside (replicate 8 no-charge) 0 8 k f no-charge (omega arith) (omega arith))
+    (λ k l. ap (λ r. getD r k no-charge) e ∙ ap (λ j. getD (filled (replicate 8 no-charge) 0 8 f) j no-charge) (sym (zero-add k)) ∙ read-filled (replicate 8 no-charge) 0 8 k f no-charge (omega arith) (omega arith))
 
 some-same : (xs ys : List ℤ) → _≡_ {A = Option (List ℤ)} (Some xs) (Some ys) → xs ≡ ys
 some-same xs ys p = cc

@@ -10,6 +10,7 @@ use lib.ListN.{length, getD, length-set}
 use lib.Seq.{getD-set-same}
 use Rattle.std.specs.declared.option.Option.{Option}
 use Rattle.std.specs.declared.option.Option.the-variants.{Some, None}
+use Rattle.std.specs.declared.result.Result.the-variants.{Ok, Err}
 use Rattle.std.proofs.shelf.Tests.{cases-lt, both-ways, and-parts, and-from, eq-eqb, not-false}
 use Rattle.std.proofs.shelf.Lists.{getD-past, set-past}
 use Rattle.refusal.specs.declared.Refusal.{Refusal}
@@ -21,10 +22,13 @@ use Rattle.table.proofs.Filling.{length-filled}
 use Rattle.book.specs.declared.energies.Energies.{Energies}
 use Rattle.book.specs.declared.hour.Hour.{Hour}
 use Rattle.book.specs.declared.hour.Hour.the-variants.{Blank}
+use Rattle.book.specs.declared.slip.Slip as paper
+use Rattle.book.specs.declared.slip.RefusedSlip.{RefusedSlip}
 use Rattle.book.specs.Hours.{is-allotted, is-correcting, told-anew, as-correcting}
 use Rattle.book.specs.State.{State, hours-of, in-month, place, hour-at, short-for}
 use Rattle.book.specs.Calls.{Slip, Settling, Call, named, of-book, slip-for, tests, refusal, effect, state-by, step, with-energies, with-line, reopened}
 use Rattle.book.specs.Calls.Call.{tell, settle, withdraw, allot, reopen, finish}
+use Rattle.book.specs.Seen.{back-or}
 use Rattle.book.proofs.Places.{at-place}
 use Rattle.book.proofs.Refused.{passed, not-refused}
 use Rattle.book.proofs.History.{allotted-corrects, anew-correcting}
@@ -103,3 +107,8 @@ module _ (b : State) (slip : Slip) (e : refusal (finish slip) b ≡ None) where
 
   pub finishes-withdrawn : (r day hour : ℕ) → refusal (finish slip) (step (withdraw r day hour) b .1) ≡ None
   finishes-withdrawn r day hour = by b (withdraw r day hour) slip e (λ _. finishes _ slip (line-still b _ _ _ slip (open-slip b slip e)))
+
+-- then no slip is handed back
+pub never-back : (o : Option Refusal) (slip : paper.Slip) (x : RefusedSlip) → o ≡ None → Err x ≡ back-or o slip → ⊥
+never-back None slip x e q = let z : _≡_ {A = ℕ} 0 1 = cc in omega arith
+never-back (Some r) slip x e q = let z : _≡_ {A = ℕ} 0 1 = cc in omega arith

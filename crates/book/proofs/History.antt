@@ -14,6 +14,7 @@ use Rattle.refusal.specs.declared.Refusal.{Refusal}
 use Rattle.refusal.specs.Tests.{refused-if}
 use Rattle.table.specs.declared.lines.BuyerLine.{BuyerLine}
 use Rattle.table.specs.Lines.{no-line, no-charge}
+use Rattle.table.proofs.Rows.{row-within, read-row}
 use Rattle.book.specs.declared.energies.Energies.{Energies}
 use Rattle.book.specs.declared.hour.Hour.{Hour}
 use Rattle.book.specs.declared.hour.Hour.the-variants.{Blank, Told, Allotted, Correcting}
@@ -23,7 +24,7 @@ use Rattle.book.specs.Telling.{energies-of}
 use Rattle.book.specs.Calls.{Settling, Slip, Call, named, of-book, slip-for, with-line, with-row, charges-of, purchases-in, tests, refusal, effect}
 use Rattle.book.specs.Calls.Call.{tell, settle, withdraw, allot, reopen, finish}
 use Rattle.book.specs.Runs.{last-told, standing, last-allots, same-slip, unspent, line-of}
-use Rattle.book.proofs.Places.{at-place, row-within, read-row}
+use Rattle.book.proofs.Places.{at-place}
 use Rattle.book.proofs.Purchases.{sound-told}
 use Rattle.book.proofs.Refused.{passed, not-refused, within-month}
 use Rattle.book.proofs.Sound.{Sound, anew-energies, anew-allotted, within-hours, sound-energies, sound-line, sound-row}

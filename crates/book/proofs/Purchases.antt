@@ -1,7 +1,7 @@
 -- The purchases that a telling stores add up to its total.
 use Prim.Native.Nat.{ℕ, zero, suc, _+_, _-_, _≤_, _<_}
 use mathlib.Core.Path.{_≡_, refl, sym, ap, _∙_}
-use mathlib.Core.Logic.{_≢_}
+use mathlib.Core.Logic.{inr}
 use mathlib.Core.List.{List, [], _∷_}
 use native.Mathlib.Numerals.{one-add, add-one}
 use native.Mathlib.Omega.{arith}
@@ -10,7 +10,7 @@ use lib.Seq.{getD-set-same, getD-set-other}
 use Rattle.std.specs.shelf.Lists.{sum}
 use Rattle.std.proofs.shelf.Sums.{sumBy-cons}
 use Rattle.table.specs.Tables.{filled}
-use Rattle.table.proofs.Filling.{length-filled, filled-inside, filled-outside}
+use Rattle.table.proofs.Filling.{length-filled, read-filled, read-beside}
 use Rattle.book.specs.declared.energies.Energies.{Energies}
 use Rattle.book.specs.Telling.{energies-of, purchase}
 use Rattle.book.proofs.Places.{all-same}
@@ -65,13 +65,13 @@ module _ (t : ℕ) (o : List ℕ) (few : length o + 1 ≤ 8) (within : sum o ≤
   unfolding slots
   rest k l =
       getD-set-other slots 0 (suc k) (t - sum o) 0 (omega arith) ∙ ap (λ j. getD slots j 0) (sym (one-add k))
-      ∙ filled-inside (replicate 8 0) 1 (length o) k (λ j. getD o j 0) 0 l (omega arith)
+      ∙ read-filled (replicate 8 0) 1 (length o) k (λ j. getD o j 0) 0 l (omega arith)
 
   past-all : (k : ℕ) → length o + 1 ≤ k → purchase (energies-of t o) k ≡ 0
   unfolding slots
   past-all k l =
       getD-set-other slots 0 k (t - sum o) 0 (omega arith)
-      ∙ filled-outside (replicate 8 0) 1 (length o) k (λ j. getD o j 0) 0 (λ j m e. omega arith)
+      ∙ read-beside (replicate 8 0) 1 (length o) k (λ j. getD o j 0) 0 (inr (omega arith))
       ∙ all-same 8 k 0
 
   long-all : length (energies-of t o .purchases) ≡ 8

@@ -18,7 +18,8 @@ use Rattle.won.proofs.Sums.{total-same}
 use Rattle.table.specs.declared.lines.ResourceLine.{ResourceLine}
 use Rattle.table.specs.declared.lines.BuyerLine.{BuyerLine}
 use Rattle.table.specs.Lines.{no-line, no-charge, paid-of, fined-of}
-use Rattle.table.proofs.Filling.{length-filled, filled-inside, filled-outside}
+use Rattle.table.proofs.Filling.{length-filled, read-filled}
+use Rattle.table.proofs.Rows.{row-within, read-row, read-other-row}
 use Rattle.book.specs.declared.energies.Energies.{Energies}
 use Rattle.book.specs.declared.hour.Hour.{Hour}
 use Rattle.book.specs.declared.hour.Hour.the-variants.{Blank, Told, Allotted, Correcting}
@@ -26,7 +27,7 @@ use Rattle.book.specs.declared.register.Register.{Register}
 use Rattle.book.specs.Hours.{is-allotted, energies-in, told-anew}
 use Rattle.book.specs.State.{State, hours-of, in-month, place, hour-at, line-at, charge-at, paid-in, fined-in}
 use Rattle.book.specs.Calls.{with-energies, with-line, with-row, charges-of, purchases-in}
-use Rattle.book.proofs.Places.{at-place, rows-apart, row-within, read-row}
+use Rattle.book.proofs.Places.{at-place}
 use Rattle.book.proofs.Purchases.{Sound-energies}
 
 -- the charges of hour h are as its lines' sums and these energies say
@@ -124,7 +125,7 @@ sound-row b p new row ok lp same right = record {
             (here k lk ∙ right q k);
       })
       (λ ne q. record {
-        charges = λ k lk. filled-outside (b .charges) (p * B) B (h * B + k) row no-charge (rows-apart B h p k ne lk) ∙ ok .rows h lh q .charges k lk;
+        charges = λ k lk. read-other-row (b .charges) B h p B k row no-charge ne (omega arith) lk ∙ ok .rows h lh q .charges k lk;
       });
   past = λ h lh. at-place (b .hours) p h _ Blank within (λ _ x. x ≡ Blank) (λ s. absurd (past-other p h _ lp lh s)) (λ _. ok .past h lh);
 }
@@ -133,7 +134,7 @@ sound-row b p new row ok lp same right = record {
     B = b .register .buyers
 
     here : (k : ℕ) → k < B → charge-at (with-row b p new row) p k ≡ row k
-    here k lk = filled-inside (b .charges) (p * B) B k row no-charge lk (omega (arith, ok .charges-long, row-within B p (hours-of (b .register)) lp))
+    here k lk = read-filled (b .charges) (p * B) B k row no-charge lk (omega (arith, ok .charges-long, row-within B p (hours-of (b .register)) lp))
 
     within : p < length (b .hours)
     within = within-hours b p ok lp

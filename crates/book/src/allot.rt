@@ -112,7 +112,7 @@ impl Book {
                     self.charge_hour(lines, charges, h, energies);
                     Ok(())
                 }
-                Err(refusal) => Err(refusal),
+                Err(reason) => Err(reason),
             },
             Err(refusal) => Err(refusal),
         }

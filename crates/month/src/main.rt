@@ -82,14 +82,12 @@ fn look_again(
     }
 }
 
-// The whole month, and what it comes to.
-fn run() -> Result<Reconciliation, Refusal> {
-    let mut lines = [ResourceLine::Empty; 744];
-    let mut charges = [BuyerLine {
-        charge: 0,
-        refund: 0,
-    }; 2232];
-    let mut book = Book::new();
+// Opens the book of May with one resource and three buyers.
+fn open(
+    book: &mut Book,
+    lines: &mut [ResourceLine],
+    charges: &mut [BuyerLine],
+) -> Result<(), Refusal> {
     let opening = Opening {
         number: 7,
         month: 5,
@@ -102,18 +100,26 @@ fn run() -> Result<Reconciliation, Refusal> {
             customers: 1,
         }],
     };
-    book.open(opening, &mut lines, &mut charges)?;
-    let method = Method::named("max45")?;
-    let metered = loads_with(1_200_000);
+    book.open(opening, lines, charges)
+}
+
+// Tells, settles from the meter, and allots the hour.
+fn allot(
+    book: &mut Book,
+    lines: &mut [ResourceLine],
+    charges: &mut [BuyerLine],
+    method: Method,
+) -> Result<(), Refusal> {
+    let loads = loads_with(1_200_000);
     let record = IntervalRecord {
-        loads: &metered,
+        loads: &loads,
         classes: &[0; 96],
     };
     let source = Ranked::new(record, method);
-    book.tell(&lines, &charges, DAY, HOUR, 3, &[1, 1])?;
+    book.tell(lines, charges, DAY, HOUR, 3, &[1, 1])?;
     book.settle(
-        &mut lines,
-        &charges,
+        lines,
+        charges,
         0,
         DAY,
         HOUR,
@@ -122,14 +128,37 @@ fn run() -> Result<Reconciliation, Refusal> {
         &source,
         &source,
     )?;
-    book.allot(&lines, &mut charges, DAY, HOUR)?;
-    let corrected = loads_with(1_100_000);
+    book.allot(lines, charges, DAY, HOUR)
+}
+
+// Corrects the hour by another reading of the meter.
+fn read_again(
+    book: &mut Book,
+    lines: &mut [ResourceLine],
+    charges: &mut [BuyerLine],
+    method: Method,
+) -> Result<(), Refusal> {
+    let loads = loads_with(1_100_000);
     let record = IntervalRecord {
-        loads: &corrected,
+        loads: &loads,
         classes: &[0; 96],
     };
     let source = Ranked::new(record, method);
-    correct(&mut book, &mut lines, &mut charges, &[1, 2], &source)?;
+    correct(book, lines, charges, &[1, 2], &source)
+}
+
+// The whole month, and what it comes to.
+fn run() -> Result<Reconciliation, Refusal> {
+    let mut book = Book::new();
+    let mut lines = [ResourceLine::Empty; 744];
+    let mut charges = [BuyerLine {
+        charge: 0,
+        refund: 0,
+    }; 2232];
+    open(&mut book, &mut lines, &mut charges)?;
+    let method = Method::named("max45")?;
+    allot(&mut book, &mut lines, &mut charges, method)?;
+    read_again(&mut book, &mut lines, &mut charges, method)?;
     look_again(&mut book, &lines, &mut charges)?;
     book.reconcile(&lines, &charges)
 }

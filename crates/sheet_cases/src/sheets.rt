@@ -45,6 +45,21 @@ fn allot(
     book.allot(lines, charges, day, hour)
 }
 
+// Allots every hour of a month of 31 days.
+fn allot_all(
+    book: &mut Book,
+    lines: &[ResourceLine],
+    charges: &mut [BuyerLine],
+    others: &[u32],
+) -> Result<(), Refusal> {
+    for day in 1..32 {
+        for hour in 1..25 {
+            allot(book, lines, charges, day, hour, others)?;
+        }
+    }
+    Ok(())
+}
+
 #[test]
 fn an_unopened_book_writes_its_head() -> Result<(), Fail> {
     let text = b"book=0\nmonth=0\nallotted=0\ncorrecting=0\n";
@@ -86,17 +101,23 @@ fn only_allotted_hours_are_summed() -> Result<(), Fail> {
     allot(&mut book, &lines, &mut charges, 1, 2, &[0])?;
     allot(&mut book, &lines, &mut charges, 29, 24, &[0])?;
     let slip = book.reopen(&lines, &mut charges, 1, 2)?;
-    for h in 0..3 {
-        lines[h] = line(-7, 2, 9);
-        charges[h * 2] = BuyerLine {
-            charge: -1,
-            refund: 10,
-        };
-        charges[h * 2 + 1] = BuyerLine {
-            charge: 50,
-            refund: 0,
-        };
-    }
+    let retailer = BuyerLine {
+        charge: -1,
+        refund: 10,
+    };
+    let other = BuyerLine {
+        charge: 50,
+        refund: 0,
+    };
+    lines[0] = line(-7, 2, 9);
+    lines[1] = line(-7, 2, 9);
+    lines[2] = line(-7, 2, 9);
+    charges[0] = retailer;
+    charges[1] = other;
+    charges[2] = retailer;
+    charges[3] = other;
+    charges[4] = retailer;
+    charges[5] = other;
     lines[695] = line(4, 1, 0);
     charges[1391] = BuyerLine {
         charge: 51,
@@ -133,11 +154,7 @@ fn the_largest_month_does_not_wrap() -> Result<(), Fail> {
         }; 16],
     };
     book.open(opening, &mut lines, &mut charges)?;
-    for day in 1..32 {
-        for hour in 1..25 {
-            allot(&mut book, &lines, &mut charges, day, hour, &[0; 7])?;
-        }
-    }
+    allot_all(&mut book, &lines, &mut charges, &[0; 7])?;
     let lines = [line(i32::MAX, i32::MAX, u32::MAX); 11_904];
     let charges = [BuyerLine {
         charge: i64::MAX,

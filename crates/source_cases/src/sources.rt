@@ -124,7 +124,9 @@ fn a_profile_keeps_the_days_of_its_first_hour() -> Result<(), Fail> {
     };
     let source = Ranked::new(record, Method::named("max45")?);
     check_eq(source.profile(0, 6, 11, 12), Ok(8))?;
-    check_eq(source.profile(0, 6, 12, 12), Ok(256)).note("1000, 8, 8 and 8 are left of days 5 to 1")?;
+    check_eq(source.profile(0, 6, 12, 12), Ok(256)).note(
+        "1000, 8, 8 and 8 are left of days 5 to 1",
+    )?;
     check_eq(source.profile(0, 6, 11, 13), Err(Cause::MissingLoad))?;
     check_eq(source.profile(0, 6, 11, 14), Ok(8)).note("a struck day may lack the load")?;
     check_eq(source.profile(0, 6, 11, 25), Err(Cause::OutOfRange))?;

@@ -31,8 +31,8 @@ returns-in-Err-step c =
     let h = c .in-Ok .ensures tt .value in
     let e = c .in-Err-step .ensures tt .answer in
     record {
-      answer = sym (ap (λ o. granted-or o tt) (step-refused call b Allot os p refl (c .in-Ok .h) h (c .in-Err-step .refusal) e));
-      book = left call b Allot os p refl (c .in-Ok .h) h _ (c .in-Err-step .refusal) e (c .in-Err-step .ensures tt .book (c .args .lines .now) (c .args .charges .now));
+      answer = sym (ap (λ o. granted-or o tt) (step-refused call b Allot os p refl (c .in-Ok .h) h (c .in-Err-step .reason) e));
+      book = left call b Allot os p refl (c .in-Ok .h) h _ (c .in-Err-step .reason) e (c .in-Err-step .ensures tt .book (c .args .lines .now) (c .args .charges .now));
     }
 
 pub returns-in-Err : need.returns-in-Err
