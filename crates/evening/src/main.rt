@@ -80,7 +80,17 @@ fn run(buffer: &mut [u8]) -> Result<usize, Refusal>
     };
     let source = Ranked::new(record, Method::named("max45")?);
     book.tell(&lines, &charges, DAY, HOUR, 3, &[1, 1])?;
-    book.settle(&mut lines, &charges, 0, DAY, HOUR, terms(), &[1], &source, &source)?;
+    book.settle(
+        &mut lines,
+        &charges,
+        0,
+        DAY,
+        HOUR,
+        terms(),
+        &[1],
+        &source,
+        &source,
+    )?;
     book.allot(&lines, &mut charges, DAY, HOUR)?;
     book.reconcile(&lines, &charges)?;
     write_sheet(&book, &lines, &charges, buffer)

@@ -31,9 +31,9 @@ returns c =
     let gathered = c .gather-count .ensures .list in
     let refused = buffer-refuses b buffer (c .if-lacks-places .ensures tt .value) in
     let answered =
-        c .write-entries .ensures .answer
-        ∙ ap (λ es. granted-or (short-buffer (text-of es) buffer) (length (text-of es))) gathered
-        ∙ ap (λ o. granted-or o (length (sheet-text b))) refused
+    c .write-entries .ensures .answer
+    ∙ ap (λ es. granted-or (short-buffer (text-of es) buffer) (length (text-of es))) gathered
+    ∙ ap (λ o. granted-or o (length (sheet-text b))) refused
     in
     record {
       answer = answered;
