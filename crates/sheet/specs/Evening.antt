@@ -27,9 +27,13 @@ count-to (suc n) test = count-to n test + cond (test n) 1 0
 abbrev pub hours-that : (Hour Energies → Bool) → Register → List (Hour Energies) → ℕ
 hours-that test s hours = count-to (hours-of s) (λ h. test (getD hours h Blank))
 
+-- an amount of hour h, if the hour is allotted
+abbrev pub if-allotted : List (Hour Energies) → ℕ → ℤ → ℤ
+if-allotted hours h amount = cond (is-allotted (getD hours h Blank)) amount (pos 0)
+
 -- the sum of an amount over the month's allotted hours
 abbrev pub over-allotted : Register → List (Hour Energies) → (ℕ → ℤ) → ℤ
-over-allotted s hours amount = total-to (hours-of s) (λ h. cond (is-allotted (getD hours h Blank)) (amount h) (pos 0))
+over-allotted s hours amount = total-to (hours-of s) (λ h. if-allotted hours h (amount h))
 
 -- what resource r is paid and fined, and buyer k charged and refunded, in allotted hours
 abbrev pub paid-over : State → ℕ → ℤ

@@ -5,7 +5,7 @@ ghost use Prim.Native.Nat.{_*_, _+_, _^_, _≤_};
 ghost use lib.IntN.{pos, natAbs, _+ℤ_};
 ghost use lib.ListN.{getD};
 ghost use Rattle.book.specs.Hours.{is-allotted, is-correcting};
-ghost use Rattle.sheet.specs.Evening.{hours-that, over-allotted};
+ghost use Rattle.sheet.specs.Evening.{hours-that, if-allotted, over-allotted};
 use book::book::Book;
 use table::lines::Amounts;
 use table::table::Sums;
@@ -63,6 +63,25 @@ fn with_line<L: Amounts>(sums: Sums, allotted: bool, line: L) -> Sums
     sums
 }
 
+// The sums with the line in a column of an hour's row, if the hour is allotted.
+fn with_hour<L: Amounts>(
+    sums: Sums,
+    book: &Book,
+    lines: &[L],
+    width: u32,
+    hour: u32,
+    column: u32,
+) -> Sums
+    requires small { ⌜ natAbs (sums .due) ≤ 2 ^ 126 ⌝ ∗ ⌜ natAbs (sums .back) ≤ 2 ^ 126 ⌝ }
+    ensures due { λ r. ⌜ r .due ≡ sums .due +ℤ if-allotted (now (book .entry) .hours) hour (L·Amounts .due (getD (now (lines .entry)) (hour * width + column) (L·Amounts .empty))) ⌝ }
+    ensures back { λ r. ⌜ r .back ≡ sums .back +ℤ if-allotted (now (book .entry) .hours) hour (L·Amounts .back (getD (now (lines .entry)) (hour * width + column) (L·Amounts .empty))) ⌝ }
+    ensures narrow { λ _. ⌜ natAbs (if-allotted (now (book .entry) .hours) hour (L·Amounts .due (getD (now (lines .entry)) (hour * width + column) (L·Amounts .empty)))) ≤ 2 ^ 63 ⌝ ∗ ⌜ natAbs (if-allotted (now (book .entry) .hours) hour (L·Amounts .back (getD (now (lines .entry)) (hour * width + column) (L·Amounts .empty)))) ≤ 2 ^ 63 ⌝ }
+{
+    let allotted = book.holds_allotted(hour);
+    let line = line_at(lines, width, hour, column);
+    with_line(sums, allotted, line)
+}
+
 // What a column of lines comes to over the month's allotted hours.
 pub(crate) fn column_sums<L: Amounts>(book: &Book, lines: &[L], width: u32, column: u32) -> Sums
     ensures due { λ r. ⌜ r .due ≡ over-allotted (now (book .entry) .register) (now (book .entry) .hours) (λ h. L·Amounts .due (getD (now (lines .entry)) (h * width + column) (L·Amounts .empty))) ⌝ }
@@ -70,11 +89,7 @@ pub(crate) fn column_sums<L: Amounts>(book: &Book, lines: &[L], width: u32, colu
 {
     let mut sums = Sums { due: 0, back: 0 };
     for hour in 0..book.register().days * 24 {
-        sums = with_line(
-            sums,
-            book.holds_allotted(hour),
-            line_at(lines, width, hour, column),
-        );
+        sums = with_hour(sums, book, lines, width, hour, column);
     }
     sums
 }

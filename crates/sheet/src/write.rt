@@ -1,7 +1,8 @@
 // Writing entries into a sink, and measuring them.
 ghost use mathlib.Core.Path.{_≡_};
-ghost use Prim.Native.Nat.{_≤_, _-_};
-ghost use lib.IntN.{natAbs};
+ghost use mathlib.Core.List.{[], _∷_};
+ghost use Prim.Native.Nat.{_-_, _<_, _≤_};
+ghost use lib.Dec.{ltb};
 ghost use lib.ListN.{length};
 ghost use Rattle.std.specs.Numbers.{Checked};
 ghost use Rattle.sheet.specs.Decimal.{decimal, signed};
@@ -12,6 +13,16 @@ use crate::sink::Sink;
 
 // Numbers below it have one digit.
 const ONE_DIGIT: u128 = 10;
+
+// The byte that ends a line.
+const LINE_END: u8 = 10;
+
+// Whether a number has one digit.
+fn is_digit(n: u128) -> bool
+    ensures value { λ r. ⌜ r ≡ ltb n 10 ⌝ }
+{
+    n < ONE_DIGIT
+}
 
 // Puts a text.
 fn write_bytes<S: Sink>(sink: &mut S, text: &[u8])
@@ -28,7 +39,7 @@ fn write_digits<S: Sink>(sink: &mut S, n: u128)
     requires { ⌜ length (decimal n) ≤ length (tape (now sink) .ahead) ⌝ }
     ensures value { λ _. ⌜ tape (now (sink .exit)) ≡ after (tape (now (sink .entry))) (decimal n) ⌝ }
 {
-    if n < ONE_DIGIT {
+    if is_digit(n) {
         sink.put(b'0' + n as u8);
         return;
     }
@@ -49,6 +60,14 @@ fn write_number<S: Sink>(sink: &mut S, n: i128)
     write_digits(sink, n.unsigned_abs());
 }
 
+// Ends a line.
+fn end_line<S: Sink>(sink: &mut S)
+    requires { ⌜ 0 < length (tape (now sink) .ahead) ⌝ }
+    ensures value { λ _. ⌜ tape (now (sink .exit)) ≡ after (tape (now (sink .entry))) (10 ∷ []) ⌝ }
+{
+    sink.put(LINE_END);
+}
+
 // Puts an entry's line.
 fn write_line<S: Sink>(sink: &mut S, entry: Entry)
     requires { ⌜ length (line-text entry) ≤ length (tape (now sink) .ahead) ⌝ }
@@ -57,7 +76,7 @@ fn write_line<S: Sink>(sink: &mut S, entry: Entry)
     write_bytes(sink, entry.key.text());
     sink.put(b'=');
     write_number(sink, entry.number);
-    sink.put(b'\n');
+    end_line(sink);
 }
 
 // Puts the lines of entries, one after another.
@@ -75,7 +94,7 @@ fn digits_len(n: u128) -> usize
     ensures value { λ r. ⌜ r ≡ length (decimal n) ⌝ }
     ensures bounded { λ r. ⌜ r ≤ 39 ⌝ }
 {
-    if n < ONE_DIGIT {
+    if is_digit(n) {
         return 1;
     }
     digits_len(n / 10) + 1

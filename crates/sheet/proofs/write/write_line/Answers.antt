@@ -26,8 +26,8 @@ write-number-requires g c κs =
       ahead-length (tape (c .write-bytes .last .sink)) (tape (c .put .last .self)) _ (c .put .ensures .value),
     )
 
-pub put-requires-2 : need.put-requires-2
-put-requires-2 g c κs =
+pub end-line-requires : need.end-line-requires
+end-line-requires g c κs =
     let tape = g .S·Sink .tape in
     let n = c .args .entry .number in
     let fits : SFits w128 n = search needs in
@@ -44,7 +44,7 @@ put-requires-2 g c κs =
 pub returns : need.returns
 returns g c =
     let tape = g .S·Sink .tape in
-    let end = tape (c .put-2 .last .self) in
+    let end = tape (c .end-line .last .sink) in
     let n = c .args .entry .number in
     let fits : SFits w128 n = search needs in
     let digits = signed n in
@@ -52,5 +52,5 @@ returns g c =
       value = after-more (tape (c .args .sink .now)) (tape (c .write-bytes .last .sink)) end (key-text (c .args .entry .key)) (61 ∷ (digits ++ (10 ∷ [])))
           (c .write-bytes .ensures .value ∙ ap (after (tape (c .args .sink .now))) (c .text .ensures .value))
           (after-more (tape (c .write-bytes .last .sink)) (tape (c .put .last .self)) end (61 ∷ []) (digits ++ (10 ∷ [])) (c .put .ensures .value)
-          (after-more (tape (c .put .last .self)) (tape (c .write-number .last .sink)) end digits (10 ∷ []) (c .write-number .ensures .value ∙ ap (λ z. after (tape (c .put .last .self)) (signed z)) (toZ-ofZ w128 n fits)) (c .put-2 .ensures .value)));
+          (after-more (tape (c .put .last .self)) (tape (c .write-number .last .sink)) end digits (10 ∷ []) (c .write-number .ensures .value ∙ ap (λ z. after (tape (c .put .last .self)) (signed z)) (toZ-ofZ w128 n fits)) (c .end-line .ensures .value)));
     }
