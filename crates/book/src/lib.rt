@@ -3,6 +3,7 @@ mod allot;
 pub mod book;
 pub mod energies;
 pub mod hour;
+mod look;
 pub mod open;
 mod place;
 pub mod read;
