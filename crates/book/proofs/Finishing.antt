@@ -1,4 +1,4 @@
--- A slip just handed out can be finished with, and telling, settling and withdrawing leave that so.
+-- A slip just handed out can be finished with, and telling, settling, withdrawing and allotting leave that so.
 use Prim.Native.Nat.{ℕ, _+_, _*_, _<_, _≤_}
 use mathlib.Core.Path.{_≡_, refl, sym, ap, subst, _∙_}
 use mathlib.Core.Logic.{_≢_, ⊎-elim}
@@ -17,6 +17,7 @@ use Rattle.refusal.specs.declared.Refusal.{Refusal}
 use Rattle.refusal.specs.declared.Refusal.the-variants.{ShortLists, WrongSlip}
 use Rattle.refusal.specs.Tests.{refused-if, first-of}
 use Rattle.table.specs.declared.lines.ResourceLine.{ResourceLine}
+use Rattle.table.specs.declared.lines.BuyerLine.{BuyerLine}
 use Rattle.table.specs.Lines.{no-charge}
 use Rattle.table.proofs.Filling.{length-filled}
 use Rattle.book.specs.declared.energies.Energies.{Energies}
@@ -26,7 +27,7 @@ use Rattle.book.specs.declared.slip.Slip as paper
 use Rattle.book.specs.declared.slip.RefusedSlip.{RefusedSlip}
 use Rattle.book.specs.Hours.{is-allotted, is-correcting, told-anew, as-correcting}
 use Rattle.book.specs.State.{State, hours-of, in-month, place, hour-at, short-for}
-use Rattle.book.specs.Calls.{Slip, Settling, Call, named, of-book, slip-for, tests, refusal, effect, state-by, step, with-energies, with-line, reopened}
+use Rattle.book.specs.Calls.{Slip, Settling, Call, named, of-book, slip-for, tests, refusal, effect, state-by, step, with-energies, with-line, with-row, reopened}
 use Rattle.book.specs.Calls.Call.{tell, settle, withdraw, allot, reopen, finish}
 use Rattle.book.specs.Seen.{back-or}
 use Rattle.book.proofs.Places.{at-place}
@@ -91,6 +92,23 @@ line-still b h r line slip o = record {
   out = o .out;
 }
 
+-- another hour allotted leaves them too
+allotted-still : (b : State) (h : ℕ) (new : Hour Energies) (row : ℕ → BuyerLine) (slip : Slip) → is-correcting (hour-at b h) ≡ false → Open-slip b slip → Open-slip (with-row b h new row) slip
+allotted-still b h new row slip free o = record {
+  long = ap (λ n. ltb (length (b .lines)) (hours-of (b .register) * b .register .enrolled) || ltb n (hours-of (b .register) * b .register .buyers)) (length-filled (b .charges) (h * b .register .buyers) (b .register .buyers) row) ∙ o .long;
+  ours = o .ours;
+  out = ⊎-elim inside outside (cases-lt h (length (b .hours)));
+}
+  where
+    p : ℕ
+    p = place (slip .day) (slip .hour)
+
+    inside : h < length (b .hours) → is-correcting (hour-at (with-row b h new row) p) ≡ true
+    inside l = at-place (b .hours) h p new Blank l (λ _ x. is-correcting x ≡ true) (λ s. absurd (both-ways (is-correcting (hour-at b h)) free (ap (λ j. is-correcting (hour-at b j)) (sym s) ∙ o .out))) (λ _. o .out)
+
+    outside : length (b .hours) ≤ h → is-correcting (hour-at (with-row b h new row) p) ≡ true
+    outside l = ap (λ hs. is-correcting (getD hs p Blank)) (set-past (b .hours) h new l) ∙ o .out
+
 by : (b : State) (c : Call) (slip : Slip) → refusal (finish slip) b ≡ None → (refusal c b ≡ None → refusal (finish slip) (effect c b) ≡ None) → refusal (finish slip) (step c b .1) ≡ None
 by b c slip e k = go (refusal c b) refl
   where
@@ -108,7 +126,15 @@ module _ (b : State) (slip : Slip) (e : refusal (finish slip) b ≡ None) where
   pub finishes-withdrawn : (r day hour : ℕ) → refusal (finish slip) (step (withdraw r day hour) b .1) ≡ None
   finishes-withdrawn r day hour = by b (withdraw r day hour) slip e (λ _. finishes _ slip (line-still b _ _ _ slip (open-slip b slip e)))
 
+  pub finishes-allotted : (day hour : ℕ) → refusal (finish slip) (step (allot day hour) b .1) ≡ None
+  finishes-allotted day hour = by b (allot day hour) slip e (λ q. let pass = passed (tests (allot day hour) b) q in finishes _ slip (allotted-still b _ _ _ slip (not-refused _ _ (pass 3)) (open-slip b slip e)))
+
 -- then no slip is handed back
 pub never-back : (o : Option Refusal) (slip : paper.Slip) (x : RefusedSlip) → o ≡ None → Err x ≡ back-or o slip → ⊥
 never-back None slip x e q = let z : _≡_ {A = ℕ} 0 1 = cc in omega arith
 never-back (Some r) slip x e q = let z : _≡_ {A = ℕ} 0 1 = cc in omega arith
+
+-- a slip that is handed back is the one that was given
+pub handed-back : (o : Option Refusal) (slip : paper.Slip) (x : RefusedSlip) → Err x ≡ back-or o slip → x .slip ≡ slip
+handed-back None slip x q = absurd (let z : _≡_ {A = ℕ} 0 1 = cc in omega arith)
+handed-back (Some r) slip x q = let s : x ≡ record { refusal = r; slip = slip } = cc in ap (λ (y : RefusedSlip). y .slip) s
