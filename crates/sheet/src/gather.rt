@@ -8,7 +8,6 @@ ghost use Rattle.book.specs.Seen.{seen};
 ghost use Rattle.sheet.specs.Evening.{entry, head-entries, resource-entries, buyer-entries, joined-to, sheet-entries};
 use crate::entry::Entry;
 use crate::entry::Key;
-use crate::sums::Counts;
 use crate::sums::column_sums;
 use crate::sums::hour_counts;
 use book::book::Book;
@@ -32,15 +31,12 @@ fn head_block(book: &Book) -> [Entry; 4]
     ensures value { λ r. ⌜ r ≡ head-entries (now (book .entry) .register) (now (book .entry) .hours) ⌝ }
 {
     let register = book.register();
-    let Counts {
-        allotted,
-        correcting,
-    } = hour_counts(book);
+    let counts = hour_counts(book);
     [
         numbered(Key::Book, register.number),
         numbered(Key::Month, register.month),
-        numbered(Key::Allotted, allotted),
-        numbered(Key::Correcting, correcting),
+        numbered(Key::Allotted, counts.allotted),
+        numbered(Key::Correcting, counts.correcting),
     ]
 }
 

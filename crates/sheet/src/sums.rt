@@ -18,6 +18,17 @@ pub(crate) struct Counts {
     pub(crate) correcting: u32,
 }
 
+impl Counts {
+    fn new(allotted: u32, correcting: u32) -> Counts
+        ensures value { λ r. ⌜ r ≡ record { allotted = allotted; correcting = correcting } ⌝ }
+    {
+        Counts {
+            allotted,
+            correcting,
+        }
+    }
+}
+
 // The count with one hour more, if it counts.
 fn counted(count: u32, counts: bool) -> u32
     requires { ⌜ count ≤ 744 ⌝ }
@@ -41,10 +52,7 @@ pub(crate) fn hour_counts(book: &Book) -> Counts
         allotted = counted(allotted, book.holds_allotted(hour));
         correcting = counted(correcting, book.holds_correcting(hour));
     }
-    Counts {
-        allotted,
-        correcting,
-    }
+    Counts::new(allotted, correcting)
 }
 
 // The sums with a line more, if its hour is allotted.
