@@ -1,4 +1,5 @@
 // The report of the usual load: a text of meter readings, and what a baseline source says of one day.
+mod asked;
 pub mod fault;
 mod fields;
 pub mod hour;

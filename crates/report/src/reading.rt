@@ -1,18 +1,15 @@
 // The text of a report, read line by line.
-ghost use mathlib.Core.Path.{_≡_};
 ghost use mathlib.Core.List.{[]};
-ghost use Prim.Native.Nat.{_≤_};
+ghost use mathlib.Core.Path.{_≡_};
 ghost use Rattle.std.specs.Options.{valueOr};
-ghost use Rattle.report.specs.Pieces.{before, behind, lines-of};
 ghost use Rattle.std.specs.Vec.{made};
 ghost use Rattle.std.specs.declared.result.Result.the-variants.{Ok};
 ghost use Rattle.report.specs.Asked.{asked, nothing-asked, mixed, metered-by, Leaves, after-word, after-line, passed-over, lines-read, Reads, Answers, asked-by};
+ghost use Rattle.report.specs.Pieces.{before, behind, lines-of};
 use crate::fault::BadLine;
 use crate::fault::Fault;
 use crate::fields::Fields;
 use crate::fields::cut;
-use crate::hour::Purchases;
-use crate::hour::Settling;
 use crate::lines::CUSTOMERS;
 use crate::lines::DAYS;
 use crate::lines::days_marked;
@@ -25,14 +22,6 @@ use crate::lines::write_from;
 use crate::meter::Meter;
 use crate::request::Request;
 use crate::word::Word;
-use baseline::adjusted::Adjusted;
-use baseline::method::Method;
-use baseline::ranked::Ranked;
-use load::interval::IntervalRecord;
-use load::left_out::LeftOut;
-use load::left_out::LeftOutDays;
-use load::loads::LoadRecord;
-use load::register::RegisterRecord;
 use std::alloc::AllocError;
 use std::alloc::Global;
 
@@ -45,11 +34,13 @@ const NOTHING: u32 = 4_294_967_295;
 // The byte of a day that is neither workday nor holiday.
 const NEITHER: u8 = 2;
 
-// The bytes of a day's class, and of a day that is left out.
+// The byte of a workday.
 const WORKDAY: u8 = 0;
 
+// The byte of a holiday.
 const HOLIDAY: u8 = 1;
 
+// The byte of a day that is left out.
 const LEFT_OUT: u8 = 1;
 
 // Whether a line of one meter may not stand in a text of another.
@@ -182,85 +173,6 @@ impl Request {
         match request.read_lines(text) {
             Ok(()) => Ok(request),
             Err(bad) => Err(bad),
-        }
-    }
-
-    // The day that is reported on.
-    pub fn day(&self) -> u32
-        ensures value { λ r. ⌜ r ≡ valueOr (asked (now (self .entry)) .day) 0 ⌝ }
-    {
-        self.day.unwrap_or(0)
-    }
-
-    // How many customers are reported on.
-    pub fn customers(&self) -> u32
-        ensures value { λ r. ⌜ r ≡ asked (now (self .entry)) .customers ⌝ }
-        ensures bounded { λ r. ⌜ r ≤ 16 ⌝ }
-    {
-        self.customers
-    }
-
-    // Whether the text has loads or readings, if it has either.
-    pub fn meter(&self) -> Option<Meter>
-        ensures value { λ r. ⌜ r ≡ asked (now (self .entry)) .meter ⌝ }
-    {
-        self.meter
-    }
-
-    // The hour to be settled, if the text names one.
-    pub fn settling(&self) -> Option<Settling>
-        ensures value { λ r. ⌜ r ≡ asked (now (self .entry)) .settling ⌝ }
-    {
-        self.settling
-    }
-
-    // What the buyers purchased in that hour, if the text says so.
-    pub fn purchases(&self) -> Option<Purchases>
-        ensures value { λ r. ⌜ r ≡ asked (now (self .entry)) .purchases ⌝ }
-    {
-        self.purchases
-    }
-
-    // The numbers as hourly loads.
-    pub fn intervals(&self) -> IntervalRecord<'_>
-        ensures loads { λ r. ⌜ now (r .loads) ≡ asked (now (self .entry)) .numbers ⌝ }
-        ensures classes { λ r. ⌜ now (r .classes) ≡ asked (now (self .entry)) .classes ⌝ }
-    {
-        IntervalRecord {
-            loads: &self.numbers,
-            classes: &self.classes,
-        }
-    }
-
-    // The numbers as register readings.
-    pub fn registers(&self) -> RegisterRecord<'_>
-        ensures readings { λ r. ⌜ now (r .readings) ≡ asked (now (self .entry)) .numbers ⌝ }
-        ensures classes { λ r. ⌜ now (r .classes) ≡ asked (now (self .entry)) .classes ⌝ }
-    {
-        RegisterRecord {
-            readings: &self.numbers,
-            classes: &self.classes,
-        }
-    }
-
-    // The usual loads by a method over a record: left-out days do not stand, and baselines are adjusted on days with an order.
-    pub fn source<R: LoadRecord>(
-        &self,
-        loads: R,
-        method: Method,
-    ) -> Adjusted<'_, Ranked<LeftOut<'_, R>>>
-        ensures starts { λ r. ⌜ now (r .starts) ≡ asked (now (self .entry)) .starts ⌝ }
-        ensures chooses { λ r. ⌜ r .below .method ≡ method ⌝ }
-        ensures left { λ r. ⌜ now (r .below .loads .marks) ≡ asked (now (self .entry)) .left-out ⌝ }
-        ensures holds { λ r. ⌜ r .below .loads .below ≡ loads ⌝ }
-    {
-        let standing = LeftOut {
-            below: loads,
-            marks: &self.left_out,
-        };
-        Adjusted {
-            below: Ranked::new(standing, method),
-            starts: &self.starts,
         }
     }
 }
