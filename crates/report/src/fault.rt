@@ -1,5 +1,4 @@
 // What is wrong with a line of the text.
-use std::alloc::AllocError;
 use std::fmt;
 
 #[derive(Clone, Copy, PartialEq, Eq, Debug)]
@@ -19,12 +18,6 @@ pub enum Fault {
 pub struct BadLine {
     pub line: usize,
     pub fault: Fault,
-}
-
-pub impl From<AllocError> for Fault as FaultFromAlloc {
-    fn from(_: AllocError) -> Fault {
-        Fault::NoMemory
-    }
 }
 
 pub impl fmt::Display for Fault as FaultDisplay {

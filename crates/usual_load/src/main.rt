@@ -11,7 +11,7 @@ use load::register::RegisterLoads;
 use refusal::Refusal;
 use report::fault::BadLineDisplay;
 use report::hour::Purchases;
-use report::request::Meter;
+use report::meter::Meter;
 use report::request::Request;
 use report::usual::UsualDisplay;
 use report::usual::usual_load;
@@ -131,7 +131,7 @@ fn run(rt: &LibcRuntime) -> Result<(), AnyError> {
         Err(bad) => return Err(bad.to_string(rt.alloc())?.into()),
     };
     match request.meter() {
-        Meter::Readings => {
+        Some(Meter::Readings) => {
             let record = request.registers();
             let class = record.class(request.day());
             print_report(rt, &request, &request.source(record, method), class)
