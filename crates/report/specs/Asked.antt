@@ -1,6 +1,5 @@
 -- What a text asks for, line by line.
 use mathlib.Core.Path.{_≡_}
-use mathlib.Core.Logic.{_⊎_}
 use mathlib.Core.Bool.{Bool, true, false, cond}
 use mathlib.Core.List.{List, [], _∷_}
 use Prim.Native.Nat.{ℕ, suc}
@@ -13,7 +12,7 @@ use Rattle.std.specs.declared.result.Result.{Result}
 use Rattle.std.specs.declared.result.Result.the-variants.{Ok, Err}
 use Rattle.report.specs.declared.fault.BadLine.{BadLine}
 use Rattle.report.specs.declared.fault.Fault.{Fault}
-use Rattle.report.specs.declared.fault.Fault.the-variants.{LoadsAndReadings, NoDay, NoMemory}
+use Rattle.report.specs.declared.fault.Fault.the-variants.{LoadsAndReadings, NoDay}
 use Rattle.report.specs.declared.hour.Purchases.{Purchases}
 use Rattle.report.specs.declared.hour.Settling.{Settling}
 use Rattle.report.specs.declared.meter.Meter.{Meter}
@@ -147,16 +146,16 @@ abbrev pub lines-read : ℕ → Result Asked BadLine → List (List ℕ) → Res
 lines-read k r [] = at-end k r
 lines-read k r (line ∷ lines) = lines-read (suc k) (with-line (suc k) r line) lines
 
--- what a text asks for, or its first bad line
-abbrev pub asked-by : List ℕ → Result Asked BadLine
-asked-by text = lines-read 0 (Ok nothing-asked) (lines-of text)
+-- what is asked for with the lines of a text, or its first bad line
+abbrev pub read-from : Asked → List ℕ → Result Asked BadLine
+read-from a text = lines-read 0 (Ok a) (lines-of text)
 
 -- the lines of a text have been read, or its first bad line found
 abbrev pub Reads : {U : Type 0} → Result U BadLine → Result Asked BadLine → Asked → Type 0
 Reads (Ok u) whole exit = whole ≡ Ok exit
 Reads (Err bad) whole exit = whole ≡ Err bad
 
--- a request holds what the text asks for; else its first bad line is told, or that there is no memory
-abbrev pub Answers : Result Request BadLine → Result Asked BadLine → Type 0
-Answers (Ok q) whole = whole ≡ Ok (asked q)
-Answers (Err bad) whole = (whole ≡ Err bad) ⊎ (bad ≡ record { line = 0; fault = NoMemory })
+-- what the request of an answer holds
+abbrev pub answered : Result Request BadLine → Result Asked BadLine
+answered (Ok q) = Ok (asked q)
+answered (Err bad) = Err bad

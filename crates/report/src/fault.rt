@@ -10,7 +10,6 @@ pub enum Fault {
     OutOfRange,
     LoadsAndReadings,
     NoDay,
-    NoMemory,
 }
 
 // The first bad line, counted from 1, and what is wrong with it.
@@ -30,7 +29,6 @@ pub impl fmt::Display for Fault as FaultDisplay {
             Fault::OutOfRange => f.write_str("out of range"),
             Fault::LoadsAndReadings => f.write_str("loads and readings in one text"),
             Fault::NoDay => f.write_str("no day named"),
-            Fault::NoMemory => f.write_str("no memory"),
         }
     }
 }

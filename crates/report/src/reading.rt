@@ -3,9 +3,8 @@ ghost use mathlib.Core.List.{[]};
 ghost use mathlib.Core.Path.{_≡_};
 ghost use Rattle.std.specs.Options.{valueOr};
 ghost use Rattle.std.specs.Vec.{made};
-ghost use Rattle.std.specs.declared.result.Result.the-variants.{Ok};
-ghost use Rattle.report.specs.Asked.{asked, nothing-asked, mixed, metered-by, Leaves, after-word, after-line, passed-over, lines-read, Reads, Answers, asked-by};
-ghost use Rattle.report.specs.Pieces.{before, behind, lines-of};
+ghost use Rattle.report.specs.Asked.{asked, nothing-asked, mixed, metered-by, Leaves, after-word, after-line, passed-over, Reads, answered, read-from};
+ghost use Rattle.report.specs.Pieces.{before, behind};
 use crate::fault::BadLine;
 use crate::fault::Fault;
 use crate::fields::Fields;
@@ -75,8 +74,8 @@ fn first_line(text: &str) -> (&str, &str)
 }
 
 impl Request {
-    // A text with nothing in it yet: one customer, no day of a class, no load.
-    fn new(heap: Global) -> Result<Request, AllocError>
+    // A request with nothing in it yet: one customer, no day of a class, no load.
+    pub fn new(heap: Global) -> Result<Request, AllocError>
         ensures value { λ r. ⌜ made r (λ q. asked q ≡ nothing-asked) ⌝ }
     {
         Ok(Request {
@@ -139,7 +138,7 @@ impl Request {
 
     // Takes the lines of a text; the first bad one ends it.
     fn read_lines(&mut self, text: &str) -> Result<(), BadLine>
-        ensures value { λ r. ⌜ Reads r (lines-read 0 (Ok (asked (now (self .entry)))) (lines-of (now (text .entry)))) (asked (now (self .exit))) ⌝ }
+        ensures value { λ r. ⌜ Reads r (read-from (asked (now (self .entry))) (now (text .entry))) (asked (now (self .exit))) ⌝ }
     {
         let mut rest = text;
         let mut lines = 0;
@@ -160,18 +159,12 @@ impl Request {
         }
     }
 
-    // What a text asks for, or its first bad line.
-    pub fn read(heap: Global, text: &str) -> Result<Request, BadLine>
-        ensures value { λ r. ⌜ Answers r (asked-by (now (text .entry))) ⌝ }
+    // The request with what a text asks for, or the text's first bad line.
+    pub fn read(mut self, text: &str) -> Result<Request, BadLine>
+        ensures value { λ r. ⌜ answered r ≡ read-from (asked self) (now (text .entry)) ⌝ }
     {
-        let Ok(mut request) = Request::new(heap) else {
-            return Err(BadLine {
-                line: 0,
-                fault: Fault::NoMemory,
-            });
-        };
-        match request.read_lines(text) {
-            Ok(()) => Ok(request),
+        match self.read_lines(text) {
+            Ok(()) => Ok(self),
             Err(bad) => Err(bad),
         }
     }

@@ -18,7 +18,7 @@ use std::test::*;
 
 #[test]
 fn only_a_day(rt: LibcRuntime) -> Result<(), Fail> {
-    let request = Request::read(rt.alloc(), "# a text\n\nday 007")?;
+    let request = Request::new(rt.alloc())?.read("# a text\n\nday 007")?;
     check_eq(request.day(), 7)?;
     check_eq(request.customers(), 1)?;
     check_eq(request.meter(), None)?;
@@ -32,7 +32,7 @@ fn only_a_day(rt: LibcRuntime) -> Result<(), Fail> {
 fn loads(rt: LibcRuntime) -> Result<(), Fail> {
     let text =
         "day 3\nload 0 0 1 10 11\nload 15 95 24 20000000\nload 2 1 9 5\nload 2 1 9 6\ncustomers 4\nday 4\n";
-    let request = Request::read(rt.alloc(), text)?;
+    let request = Request::new(rt.alloc())?.read(text)?;
     let record = request.intervals();
     check_eq(request.day(), 4)?;
     check_eq(request.customers(), 4)?;
@@ -48,7 +48,7 @@ fn loads(rt: LibcRuntime) -> Result<(), Fail> {
 fn readings(rt: LibcRuntime) -> Result<(), Fail> {
     let text =
         "day 1\nreading 1 0 0 100 110 130\nreading 15 95 23 7 9\nreading 0 1 24 999999999\nreading 0 2 1 4\n";
-    let request = Request::read(rt.alloc(), text)?;
+    let request = Request::new(rt.alloc())?.read(text)?;
     let record = request.registers();
     check_eq(request.meter(), Some(Meter::Readings))?;
     check_eq(record.load(1, 0, 1), Some(10))?;
@@ -60,7 +60,7 @@ fn readings(rt: LibcRuntime) -> Result<(), Fail> {
 
 #[test]
 fn classes(rt: LibcRuntime) -> Result<(), Fail> {
-    let request = Request::read(rt.alloc(), "workday 0 1 95\nholiday 1 2\nday 0")?;
+    let request = Request::new(rt.alloc())?.read("workday 0 1 95\nholiday 1 2\nday 0")?;
     let record = request.intervals();
     check_eq(record.class(0), DayClass::Workday)?;
     check_eq(record.class(1), DayClass::Holiday)?;
@@ -72,7 +72,7 @@ fn classes(rt: LibcRuntime) -> Result<(), Fail> {
 #[test]
 fn an_hour(rt: LibcRuntime) -> Result<(), Fail> {
     let text = "day 0\nsettle 11 2 5 100 200 0 1 12050 15000 1 0 1\nenergy 100 40 25\n";
-    let request = Request::read(rt.alloc(), text)?;
+    let request = Request::new(rt.alloc())?.read(text)?;
     let settling = request.settling().ok_or("no settling")?;
     check_eq(settling.hour, 11)?;
     check_eq(settling.kind, Kind::SmallMedium)?;

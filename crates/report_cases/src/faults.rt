@@ -5,7 +5,7 @@ use std::test::*;
 
 // Checks what is told of a text that is refused.
 fn check_told(rt: &LibcRuntime, text: &str, told: &str) -> Result<(), Fail> {
-    match Request::read(rt.alloc(), text) {
+    match Request::new(rt.alloc())?.read(text) {
         Ok(_) => Err(Fail::new("it was read")),
         Err(bad) => check_eq(bad.to_string(rt.alloc())?.as_str(), told),
     }

@@ -126,7 +126,7 @@ fn run(rt: &LibcRuntime) -> Result<(), AnyError> {
     let method = method_of(rt)?;
     let mut text = String::new(rt.alloc());
     rt.stdin().read_to_string(&mut text)?;
-    let request = match Request::read(rt.alloc(), text.as_str()) {
+    let request = match Request::new(rt.alloc())?.read(text.as_str()) {
         Ok(request) => request,
         Err(bad) => return Err(bad.to_string(rt.alloc())?.into()),
     };
