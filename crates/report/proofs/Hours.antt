@@ -17,8 +17,7 @@ use Rattle.settlement.specs.Kinds.{kind-numbered}
 use Rattle.settlement.specs.declared.terms.Kind.{Kind}
 use Rattle.report.specs.declared.fault.Fault.{Fault}
 use Rattle.report.specs.declared.fault.Fault.the-variants.{OutOfRange}
-use Rattle.report.specs.declared.hour.Purchases.{Purchases}
-use Rattle.report.specs.Lines.{written, mark-in, marks-written, settling-from, settling-in, purchases-in}
+use Rattle.report.specs.Lines.{written, mark-in, marks-written, settling-from, settling-in, purchased, purchases-in}
 
 pub settling-goes : (ns : List ℕ) (k : Kind) (e t : Bool) (m : Result (List ℕ) Fault) → 9 ≤ length ns → length ns ≤ 25 → kind-numbered (getD ns 1 0) ≡ Some k → mark-in (getD ns 5 0) ≡ Ok e → mark-in (getD ns 6 0) ≡ Ok t → marks-written 0 (take (length ns - 9) (drop 9 ns)) (replicate 16 0) ≡ m → settling-in ns ≡ settling-from ns (Some k) (Ok e) (Ok t) m
 settling-goes ns k e t m many few kind emergency test marks =
@@ -43,12 +42,9 @@ pub some-left : (b : Bool) (v r : ℕ) → Some r ≡ cond b (Some v) None → (
 some-left true v r e = (refl, cc)
 some-left false v r e = absurd (let z : _≡_ {A = ℕ} 0 1 = cc in omega arith)
 
-abbrev pub shared-by : ℕ → List ℕ → Purchases
-shared-by rest others = record { bought = written 1 others (set (replicate 8 0) 0 rest); buyers = length others + 1 }
-
-pub purchases-goes : (ns : List ℕ) (total : ℕ) (others : List ℕ) (b : Bool) → ns ≡ total ∷ others → length others ≤ 7 → 1 ≤ total → total ≤ 150000000 → leb (sum others) total ≡ b → purchases-in ns ≡ cond b (Ok (shared-by (total - sum others) others)) (Err OutOfRange)
+pub purchases-goes : (ns : List ℕ) (total : ℕ) (others : List ℕ) (b : Bool) → ns ≡ total ∷ others → length others ≤ 7 → 1 ≤ total → total ≤ 150000000 → leb (sum others) total ≡ b → purchases-in ns ≡ cond b (Ok (purchased (total - sum others) others)) (Err OutOfRange)
 purchases-goes ns total others b e few some most within =
     let test : (leb 1 total && (leb total 150000000 && leb (sum others) total)) ≡ b = ap (λ (x : Bool). x && (leb total 150000000 && leb (sum others) total)) (le-leb 1 total some) ∙ ap (λ (x : Bool). x && leb (sum others) total) (le-leb total 150000000 most) ∙ within in
     ap purchases-in e
     ∙ cond-false _ _ _ (le-ltb 7 (length others) few)
-    ∙ ap (λ (x : Bool). cond x (Ok (shared-by (total - sum others) others)) (Err OutOfRange)) test
+    ∙ ap (λ (x : Bool). cond x (Ok (purchased (total - sum others) others)) (Err OutOfRange)) test

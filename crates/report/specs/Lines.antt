@@ -103,11 +103,15 @@ settling-in ns =
     (cond (ltb 25 (length ns)) (Err TooManyNumbers)
     (settling-from ns (kind-numbered (getD ns 1 0)) (mark-in (getD ns 5 0)) (mark-in (getD ns 6 0)) (marks-written 0 (drop 9 ns) (replicate 16 0))))
 
+-- the retailer's purchase, then those of the others, 0 where there is no buyer
+abbrev pub purchased : ℕ → List ℕ → Purchases
+purchased rest others = record { bought = written 1 others (set (replicate 8 0) 0 rest); buyers = length others + 1 }
+
 -- a total, then what each of at most 7 buyers but the retailer purchased of it; the rest is the retailer's
 abbrev pub purchases-in : List ℕ → Result Purchases Fault
 purchases-in [] = Err TooFewNumbers
 purchases-in (total ∷ others) =
     cond (ltb 7 (length others)) (Err TooManyNumbers)
     (cond (leb 1 total && (leb total 150000000 && leb (sum others) total))
-    (Ok (record { bought = written 1 others (set (replicate 8 0) 0 (total - sum others)); buyers = length others + 1 }))
+    (Ok (purchased (total - sum others) others))
     (Err OutOfRange))

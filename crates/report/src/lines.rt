@@ -7,7 +7,7 @@ ghost use lib.ListN.{length, replicate};
 ghost use Rattle.std.specs.Vec.{made};
 ghost use Rattle.std.specs.shelf.Lists.{sum};
 ghost use Rattle.std.specs.declared.option.Option.the-variants.{Some, None};
-ghost use Rattle.report.specs.Lines.{only-number, days-marked, start-marked, written, first-hour, hour-place, place-for, place-in, mark-in, marks-written, settling-in, purchases-in};
+ghost use Rattle.report.specs.Lines.{only-number, days-marked, start-marked, written, first-hour, hour-place, place-for, place-in, mark-in, marks-written, settling-in, purchased, purchases-in};
 use crate::fault::Fault;
 use crate::hour::Purchases;
 use crate::hour::Settling;
@@ -216,6 +216,20 @@ pub(crate) fn write_from(table: &mut [u32], place: usize, values: &[u32])
     }
 }
 
+// The retailer's purchase, then those of at most 7 others.
+fn purchased(rest: u32, others: &[u32]) -> Purchases
+    requires few { ⌜ length (now others) ≤ 7 ⌝ }
+    ensures value { λ r. ⌜ r ≡ purchased rest (now (others .entry)) ⌝ }
+{
+    let mut bought = [0; 8];
+    bought[0] = rest;
+    write_from(&mut bought, 1, others);
+    Purchases {
+        bought,
+        buyers: others.len() + 1,
+    }
+}
+
 // A total, then what each buyer but the retailer purchased of it; the rest is the retailer's.
 pub(crate) fn purchases_of(numbers: &[u32]) -> Result<Purchases, Fault>
     ensures value { λ r. ⌜ r ≡ purchases-in (now (numbers .entry)) ⌝ }
@@ -232,11 +246,5 @@ pub(crate) fn purchases_of(numbers: &[u32]) -> Result<Purchases, Fault>
     let Some(rest) = rest_of(*total, others) else {
         return Err(Fault::OutOfRange);
     };
-    let mut bought = [0; 8];
-    bought[0] = rest;
-    write_from(&mut bought, 1, others);
-    Ok(Purchases {
-        bought,
-        buyers: others.len() + 1,
-    })
+    Ok(purchased(rest, others))
 }
