@@ -2,7 +2,7 @@
 ghost use denote.Ref.{now};
 ghost use mathlib.Core.Path.{_≡_};
 ghost use Prim.Native.Nat.{_+_, _≤_};
-ghost use lib.IntN.{pos, negsuc, _+ℤ_, _-ℤ_};
+ghost use lib.IntN.{pos, negsuc, _+ℤ_, _-ℤ_, _*ℤ_};
 ghost use lib.Signed.{_≤ℤ_};
 ghost use Rattle.baseline.specs.Meaning.{Within-bounds};
 ghost use Rattle.baseline.specs.Sources.{start-on, Three-loads, rounded-third, clamped, gap-on, brought-by, adjusted-source};
@@ -30,6 +30,15 @@ fn start_of(starts: &[u8], day: u32) -> u32
     u32::from(byte_of(starts, day).unwrap_or(0))
 }
 
+// Twice a gap and 3: six times its third and one half.
+fn six_thirds(gap: i32) -> i32
+    requires low { ⌜ negsuc 59999999 ≤ℤ gap ⌝ }
+    requires high { ⌜ gap ≤ℤ pos 60000000 ⌝ }
+    ensures value { λ r. ⌜ r ≡ gap *ℤ pos 2 +ℤ pos 3 ⌝ }
+{
+    gap * 2 + 3
+}
+
 // The rounded third of a gap.
 fn third_of(gap: i32) -> i32
     requires low { ⌜ negsuc 59999999 ≤ℤ gap ⌝ }
@@ -38,7 +47,7 @@ fn third_of(gap: i32) -> i32
     ensures low { λ r. ⌜ negsuc 19999999 ≤ℤ r ⌝ }
     ensures high { λ r. ⌜ r ≤ℤ pos 20000000 ⌝ }
 {
-    (gap * 2 + 3).div_euclid(6)
+    six_thirds(gap).div_euclid(6)
 }
 
 // The metered loads of three hours less their profiles.

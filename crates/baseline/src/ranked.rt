@@ -18,6 +18,16 @@ use load::places::is_hour;
 use load::places::is_in_range;
 use refusal::Cause;
 
+// One half is added to the quotient, and the fraction dropped.
+fn rounded_quotient(sum: u64, count: u64) -> u64
+    requires some { ⌜ 0 < count ⌝ }
+    requires few { ⌜ count ≤ 10 ⌝ }
+    requires bounded { ⌜ sum ≤ 200000000 ⌝ }
+    ensures value { λ r. ⌜ r ≡ rounded-mean sum count ⌝ }
+{
+    (2 * sum + count) / (2 * count)
+}
+
 // The rounded mean of at most ten loads that add up to `sum`.
 fn rounded_mean_of(sum: u64, count: u64) -> u32
     requires some { ⌜ 0 < count ⌝ }
@@ -26,7 +36,7 @@ fn rounded_mean_of(sum: u64, count: u64) -> u32
     ensures value { λ r. ⌜ r ≡ rounded-mean sum count ⌝ }
     ensures bounded { λ r. ⌜ r ≤ 20000000 ⌝ }
 {
-    ((2 * sum + count) / (2 * count)) as u32
+    rounded_quotient(sum, count) as u32
 }
 
 // Loads, and the method by which reference days are chosen and struck.

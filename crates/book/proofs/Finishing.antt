@@ -1,4 +1,4 @@
--- A slip just handed out can be finished with, and telling, settling and withdrawing leave that so.
+-- A slip just handed out can be finished with, and telling, settling, withdrawing and allotting leave that so.
 use Prim.Native.Nat.{ℕ, _+_, _*_, _<_, _≤_}
 use mathlib.Core.Path.{_≡_, refl, sym, ap, subst, _∙_}
 use mathlib.Core.Logic.{_≢_, ⊎-elim}
@@ -134,3 +134,13 @@ module _ (b : State) (slip : Slip) (e : refusal (finish slip) b ≡ None) where
   -- the finishing of another hour
   pub finishes-other : (other : Slip) → place (slip .day) (slip .hour) ≢ place (other .day) (other .hour) → refusal (finish slip) (step (finish other) b .1) ≡ None
   finishes-other other ne = by b (finish other) slip e (λ none. finishes _ slip (row-still b (place (other .day) (other .hour)) _ _ slip (open-slip b slip e) ne))
+
+-- then no slip is handed back
+pub never-back : (o : Option Refusal) (slip : paper.Slip) (x : RefusedSlip) → o ≡ None → Err x ≡ back-or o slip → ⊥
+never-back None slip x e q = let z : _≡_ {A = ℕ} 0 1 = cc in omega arith
+never-back (Some r) slip x e q = let z : _≡_ {A = ℕ} 0 1 = cc in omega arith
+
+-- a slip that is handed back is the one that was given
+pub handed-back : (o : Option Refusal) (slip : paper.Slip) (x : RefusedSlip) → Err x ≡ back-or o slip → x .slip ≡ slip
+handed-back None slip x q = absurd (let z : _≡_ {A = ℕ} 0 1 = cc in omega arith)
+handed-back (Some r) slip x q = let s : x ≡ record { refusal = r; slip = slip } = cc in ap (λ (y : RefusedSlip). y .slip) s

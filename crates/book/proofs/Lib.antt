@@ -11,6 +11,6 @@ mod Stepped
 mod Telling
 pub mod Finishing
 mod MonthSums
-mod Balance
+pub mod Balance
 mod Alls
 mod Entered

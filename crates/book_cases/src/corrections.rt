@@ -1,20 +1,21 @@
 // Corrections, each with its slip spent at the end.
 use baseline::source::BaselineSource;
 use book::book::Book;
+use book::slip::RefusedSlip;
 use refusal::Refusal;
 use settlement::terms::Terms;
 use table::lines::BuyerLine;
 use table::lines::ResourceLine;
 
 // The number of a refusal, 0 for none.
-pub fn number_of<X: Drop>(answer: Result<X, Refusal>) -> u32 {
+pub fn number_of(answer: Result<(), Refusal>) -> u32 {
     match answer {
-        Ok(_) => 0,
+        Ok(()) => 0,
         Err(refusal) => refusal.number(),
     }
 }
 
-// Reopens an hour, tries what an hour in correction refuses, tells, settles, withdraws and settles again, and finishes; the numbers of its refusals in that order.
+// Reopens an hour, tries to allot it, tells, settles, withdraws and settles it again, and finishes it; the numbers of the refusals in between, 0 for none.
 pub fn correct<S: BaselineSource>(
     book: &mut Book,
     lines: &mut [ResourceLine],
@@ -23,17 +24,20 @@ pub fn correct<S: BaselineSource>(
     hour: u32,
     terms: Terms,
     source: &S,
-) -> Result<[u32; 4], Refusal> {
+) -> Result<[u32; 5], Refusal> {
     let slip = book.reopen(lines, charges, day, hour)?;
+    let untimely = book.allot(lines, charges, day, hour);
     let told = book.tell(lines, charges, day, hour, 10, &[4, 6]);
     let settled = book.settle(lines, charges, 0, day, hour, terms, &[1], source, source);
     let withdrawn = book.withdraw(lines, charges, 0, day, hour);
     let again = book.settle(lines, charges, 0, day, hour, terms, &[1], source, source);
-    match book.finish(lines, charges, slip) {
+    let finished = book.finish(lines, charges, slip);
+    match finished {
         Ok(()) => {}
         Err(_refused) => unreachable(),
     }
     Ok([
+        number_of(untimely),
         number_of(told),
         number_of(settled),
         number_of(withdrawn),
@@ -55,8 +59,13 @@ pub fn offer_elsewhere(
     let slip = book.reopen(lines, charges, day, hour)?;
     match other.finish(other_lines, other_charges, slip) {
         Ok(()) => Ok(0),
-        Err(refused) => match book.finish(lines, charges, refused.slip) {
-            Ok(()) => Ok(refused.refusal.number()),
+        Err(
+            RefusedSlip {
+                refusal,
+                slip: back,
+            },
+        ) => match book.finish(lines, charges, back) {
+            Ok(()) => Ok(refusal.number()),
             Err(_refused) => unreachable(),
         },
     }

@@ -1,15 +1,16 @@
 // Openings at their edges.
 use crate::corrections::number_of;
+use crate::desk::OLD;
+use crate::desk::OLD_LINE;
+use crate::desk::same_charges;
+use crate::desk::same_lines;
 use book::book::Book;
 use book::book::BookPartialEq;
 use book::open::Opening;
 use book::register::Registration;
-use settlement::terms::Line;
 use std::test::*;
 use table::lines::BuyerLine;
-use table::lines::BuyerLinePartialEq;
 use table::lines::ResourceLine;
-use table::lines::ResourceLinePartialEq;
 
 // A resource that is in range.
 const SOUND: Registration = Registration {
@@ -18,249 +19,153 @@ const SOUND: Registration = Registration {
     customers: 16,
 };
 
-// A line that stood in a list before it was handed in.
-const OLD_LINE: ResourceLine = ResourceLine::Settled(Line {
-    plan: 1,
-    order: 2,
-    sr: -3,
-    dr: 4,
-    dlr: 5,
-    slr: 6,
-    plan_pay: i32::MIN,
-    order_pay: i32::MAX,
-    fined: 7,
-});
-
-const OLD_CHARGE: BuyerLine = BuyerLine {
-    charge: i64::MIN,
-    refund: i64::MAX,
-};
-
-// May, 31 workdays, one resource and two buyers.
-fn may<'a>(classes: &'a [u8], resources: &'a [Registration]) -> Opening<'a> {
-    Opening {
-        number: u32::MAX,
-        month: 5,
-        classes,
-        first_day: 64,
-        buyers: 2,
-        resources,
+// The number of an opening's refusal; 99 if a refused one left anything changed.
+fn opened(
+    opening: Opening,
+    lines: &mut [ResourceLine],
+    charges: &mut [BuyerLine],
+    old_lines: &[ResourceLine],
+    old_charges: &[BuyerLine],
+) -> u32 {
+    let mut book = Book::new();
+    let refused = number_of(book.open(opening, lines, charges));
+    if refused == 0 {
+        return 0;
     }
+    let same = book == Book::new()
+        && same_lines(lines, old_lines)
+        && same_charges(charges, old_charges);
+    if same { refused } else { 99 }
 }
 
-// The refusal of an opening over lists of old lines, 0 for none, 99 if a refused one left anything changed.
+// Tries an opening over lists for one resource and two buyers in a month of 31 days, all filled with old lines.
 fn tried(opening: Opening) -> u32 {
-    let mut book = Book::new();
     let mut lines = [OLD_LINE; 744];
-    let mut charges = [OLD_CHARGE; 1488];
-    let refused = number_of(book.open(opening, &mut lines, &mut charges));
-    if refused != 0 {
-        let same = book == Book::new() && lines == [OLD_LINE; 744] && charges == [OLD_CHARGE; 1488];
-        if !same {
-            return 99;
-        }
+    let mut charges = [OLD; 1488];
+    opened(
+        opening,
+        &mut lines,
+        &mut charges,
+        &[OLD_LINE; 744],
+        &[OLD; 1488],
+    )
+}
+
+// Tries a month by its number, with so many days of one class.
+fn month(month: u32, days: usize, class: u8) -> u32 {
+    let classes = [class; 32];
+    if days > 32 {
+        return 98;
     }
-    refused
+    tried(Opening {
+        number: u32::MAX,
+        month,
+        classes: &classes[0..days],
+        first_day: 64,
+        buyers: 2,
+        resources: &[SOUND],
+    })
+}
+
+// Tries May with a first day, so many buyers, and so many resources alike.
+fn may(first_day: u32, buyers: u32, count: usize, each: Registration) -> u32 {
+    let resources = [each; 17];
+    if count > 17 {
+        return 98;
+    }
+    tried(Opening {
+        number: 0,
+        month: 5,
+        classes: &[1; 31],
+        first_day,
+        buyers,
+        resources: &resources[0..count],
+    })
 }
 
 #[test]
 fn months_and_classes() -> Result<(), Fail> {
-    let sound = [SOUND];
-    check_eq(tried(may(&[0; 31], &sound)), 0)?;
-    check_eq(
-        tried(Opening {
-            month: 0,
-            ..may(&[0; 31], &sound)
-        }),
-        1,
-    )?;
-    check_eq(
-        tried(Opening {
-            month: 13,
-            ..may(&[0; 31], &sound)
-        }),
-        1,
-    )?;
-    check_eq(
-        tried(Opening {
-            month: 12,
-            ..may(&[1; 31], &sound)
-        }),
-        0,
-    )?;
-    check_eq(tried(may(&[0; 30], &sound)), 2)?;
-    check_eq(tried(may(&[2; 31], &sound)), 2)?;
-    check_eq(
-        tried(Opening {
-            month: 4,
-            ..may(&[0; 30], &sound)
-        }),
-        0,
-    )?;
-    check_eq(
-        tried(Opening {
-            month: 4,
-            ..may(&[0; 31], &sound)
-        }),
-        2,
-    )?;
-    Ok(())
+    check_eq(month(0, 31, 0), 1)?;
+    check_eq(month(1, 31, 0), 0)?;
+    check_eq(month(12, 31, 1), 0)?;
+    check_eq(month(13, 31, 0), 1)?;
+    check_eq(month(5, 30, 0), 2)?;
+    check_eq(month(5, 31, 2), 2)?;
+    check_eq(month(4, 30, 0), 0)?;
+    check_eq(month(4, 31, 0), 2)
 }
 
 #[test]
 fn february() -> Result<(), Fail> {
-    let sound = [SOUND];
-    check_eq(
-        tried(Opening {
-            month: 2,
-            ..may(&[0; 27], &sound)
-        }),
-        2,
-    )?;
-    check_eq(
-        tried(Opening {
-            month: 2,
-            ..may(&[0; 28], &sound)
-        }),
-        0,
-    )?;
-    check_eq(
-        tried(Opening {
-            month: 2,
-            ..may(&[0; 29], &sound)
-        }),
-        0,
-    )?;
-    check_eq(
-        tried(Opening {
-            month: 2,
-            ..may(&[0; 30], &sound)
-        }),
-        2,
-    )?;
-    Ok(())
+    check_eq(month(2, 27, 0), 2)?;
+    check_eq(month(2, 28, 0), 0)?;
+    check_eq(month(2, 29, 0), 0)?;
+    check_eq(month(2, 30, 0), 2)
 }
 
 #[test]
 fn days_resources_and_buyers() -> Result<(), Fail> {
-    let sound = [SOUND];
-    check_eq(
-        tried(Opening {
-            first_day: 65,
-            ..may(&[0; 31], &sound)
-        }),
-        3,
-    )?;
-    check_eq(tried(may(&[0; 31], &[])), 4)?;
-    check_eq(tried(may(&[0; 31], &[SOUND; 17])), 4)?;
-    check_eq(tried(may(&[0; 31], &[SOUND; 16])), 7)?;
-    check_eq(tried(may(&[0; 31], &[SOUND; 2])), 7)?;
-    check_eq(
-        tried(Opening {
-            buyers: 0,
-            ..may(&[0; 31], &sound)
-        }),
-        6,
-    )?;
-    check_eq(
-        tried(Opening {
-            buyers: 9,
-            ..may(&[0; 31], &sound)
-        }),
-        6,
-    )?;
-    check_eq(
-        tried(Opening {
-            buyers: 8,
-            ..may(&[0; 31], &sound)
-        }),
-        7,
-    )?;
-    check_eq(
-        tried(Opening {
-            buyers: 1,
-            ..may(&[0; 31], &sound)
-        }),
-        0,
-    )?;
-    Ok(())
+    check_eq(may(64, 2, 1, SOUND), 0)?;
+    check_eq(may(65, 0, 0, SOUND), 3)?;
+    check_eq(may(64, 0, 0, SOUND), 4)?;
+    check_eq(may(64, 0, 17, SOUND), 4)?;
+    check_eq(may(64, 0, 16, SOUND), 6)?;
+    check_eq(may(64, 9, 1, SOUND), 6)?;
+    check_eq(may(64, 8, 1, SOUND), 7)?;
+    check_eq(may(64, 2, 2, SOUND), 7)
 }
 
 #[test]
 fn kinds_customers_and_aggregators() -> Result<(), Fail> {
+    check_eq(may(64, 0, 1, Registration { kind: 0, ..SOUND }), 5)?;
+    check_eq(may(64, 2, 1, Registration { kind: 1, ..SOUND }), 0)?;
+    check_eq(may(64, 0, 1, Registration { kind: 5, ..SOUND }), 5)?;
     check_eq(
-        tried(may(&[0; 31], &[Registration { kind: 0, ..SOUND }])),
-        5,
-    )?;
-    check_eq(
-        tried(may(&[0; 31], &[Registration { kind: 1, ..SOUND }])),
-        0,
-    )?;
-    check_eq(
-        tried(may(&[0; 31], &[Registration { kind: 5, ..SOUND }])),
-        5,
-    )?;
-    check_eq(
-        tried(may(
-            &[0; 31],
-            &[Registration {
+        may(
+            64,
+            0,
+            1,
+            Registration {
                 customers: 0,
                 ..SOUND
-            }],
-        )),
+            },
+        ),
         5,
     )?;
     check_eq(
-        tried(may(
-            &[0; 31],
-            &[Registration {
+        may(
+            64,
+            0,
+            1,
+            Registration {
                 customers: 17,
                 ..SOUND
-            }],
-        )),
+            },
+        ),
         5,
     )?;
     check_eq(
-        tried(may(
-            &[0; 31],
-            &[Registration {
+        may(
+            64,
+            0,
+            1,
+            Registration {
                 aggregator: 0,
                 ..SOUND
-            }],
-        )),
+            },
+        ),
         5,
     )?;
     check_eq(
-        tried(may(
-            &[0; 31],
-            &[Registration {
+        may(
+            64,
+            0,
+            1,
+            Registration {
                 aggregator: 100,
                 ..SOUND
-            }],
-        )),
+            },
+        ),
         5,
-    )?;
-    Ok(())
-}
-
-#[test]
-fn lists_keep_what_lies_beyond() -> Result<(), Fail> {
-    let mut book = Book::new();
-    let mut lines = [OLD_LINE; 746];
-    let mut charges = [OLD_CHARGE; 1489];
-    check_eq(
-        number_of(book.open(may(&[0; 31], &[SOUND]), &mut lines, &mut charges)),
-        0,
-    )?;
-    check(lines[743] == ResourceLine::Empty && lines[744] == OLD_LINE && lines[745] == OLD_LINE)?;
-    let none = BuyerLine {
-        charge: 0,
-        refund: 0,
-    };
-    check(charges[1487] == none && charges[1488] == OLD_CHARGE)?;
-    check_eq(
-        number_of(book.open(may(&[0; 31], &[SOUND]), &mut lines, &mut charges)),
-        9,
-    )?;
-    Ok(())
+    )
 }

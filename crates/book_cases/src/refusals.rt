@@ -1,298 +1,152 @@
 // Every refusal of the calls at its edge, after which book and lists are as they were.
-use crate::corrections::number_of;
-use baseline::filed::FiledBaselines;
-use baseline::filed::FiledSource;
+use crate::desk::OLD;
+use crate::desk::OLD_LINE;
+use crate::desk::PLANNED;
+use crate::desk::allot;
+use crate::desk::as_prepared;
+use crate::desk::prepare;
+use crate::desk::read_charge;
+use crate::desk::read_line;
+use crate::desk::settle;
+use crate::desk::tell;
+use crate::desk::withdraw;
 use book::book::Book;
-use book::book::BookPartialEq;
-use book::open::Opening;
-use book::register::Registration;
-use refusal::Refusal;
 use settlement::terms::Terms;
 use std::test::*;
 use table::lines::BuyerLine;
-use table::lines::BuyerLinePartialEq;
 use table::lines::ResourceLine;
-use table::lines::ResourceLinePartialEq;
 
-// A plan of 1,000,000 Wh at 120.50 won per kWh.
-const PLANNED: Terms = Terms {
-    plan: 1_000_000,
-    order: 0,
-    emergency: false,
-    test: false,
-    smp: 12_050,
-    mgp: 0,
-};
-
-// What stood in the list of charges before it was handed in.
-const OLD: BuyerLine = BuyerLine {
-    charge: 7,
-    refund: -7,
-};
-
-// A source with a baseline of 2,000,000 Wh and a load of 1,200,000 Wh on days 0 to 8.
-fn source() -> FiledSource<'static> {
-    FiledSource {
-        baselines: &[2_000_000; 216],
-        loads: &[1_200_000; 216],
-    }
+// Tells hours outside the month, and an allotted one.
+fn told_hours(book: &mut Book, lines: &[ResourceLine], charges: &[BuyerLine]) -> [u32; 5] {
+    [
+        tell(book, lines, charges, 0, 13, 3, &[1, 1]),
+        tell(book, lines, charges, 32, 13, 3, &[1, 1]),
+        tell(book, lines, charges, 1, 0, 3, &[1, 1]),
+        tell(book, lines, charges, 1, 25, 0, &[1, 1]),
+        tell(book, lines, charges, 1, 11, 0, &[1, 1]),
+    ]
 }
 
-// A book of May with one resource and three buyers; hour 11 of day 1 is told, settled and allotted, hour 12 told and settled.
-fn prepare(
-    book: &mut Book,
-    lines: &mut [ResourceLine],
-    charges: &mut [BuyerLine],
-) -> Result<(), Refusal> {
-    let opening = Opening {
-        number: 7,
-        month: 5,
-        classes: &[0; 31],
-        first_day: 5,
-        buyers: 3,
-        resources: &[Registration {
-            kind: 1,
-            aggregator: 12,
-            customers: 1,
-        }],
+// Tells energies that do not fit.
+fn told_energies(book: &mut Book, lines: &[ResourceLine], charges: &[BuyerLine]) -> [u32; 6] {
+    [
+        tell(book, lines, charges, 31, 24, 0, &[1]),
+        tell(book, lines, charges, 31, 24, 150_000_001, &[1, 1]),
+        tell(book, lines, charges, 31, 24, 3, &[4]),
+        tell(book, lines, charges, 31, 24, 3, &[1, 1, 1]),
+        tell(book, lines, charges, 31, 24, 3, &[2, 2]),
+        tell(book, lines, charges, 31, 24, 3, &[4_294_967_295, 1]),
+    ]
+}
+
+// Settles an hour outside the month, an unknown resource, an allotted hour, and terms that do not fit.
+fn settled_terms(book: &Book, lines: &mut [ResourceLine], charges: &[BuyerLine]) -> [u32; 6] {
+    let none = Terms {
+        plan: 0,
+        test: true,
+        ..PLANNED
     };
-    book.open(opening, lines, charges)?;
-    let filed = source();
-    book.tell(lines, charges, 1, 11, 3, &[1, 1])?;
-    book.settle(lines, charges, 0, 1, 11, PLANNED, &[1], &filed, &filed)?;
-    book.allot(lines, charges, 1, 11)?;
-    book.tell(lines, charges, 1, 12, 150_000_000, &[150_000_000, 0])?;
-    book.settle(lines, charges, 0, 1, 12, PLANNED, &[1], &filed, &filed)?;
-    Ok(())
+    let dear = Terms {
+        smp: 200_001,
+        test: true,
+        ..PLANNED
+    };
+    let marked = Terms {
+        test: true,
+        ..PLANNED
+    };
+    [
+        settle(book, lines, charges, 1, 1, 25, none, 1),
+        settle(book, lines, charges, 1, 1, 11, none, 1),
+        settle(book, lines, charges, 0, 1, 11, none, 1),
+        settle(book, lines, charges, 0, 1, 12, none, 1),
+        settle(book, lines, charges, 0, 1, 12, dear, 1),
+        settle(book, lines, charges, 0, 1, 13, marked, 1),
+    ]
 }
 
-#[test]
-fn telling() -> Result<(), Fail> {
-    let mut book = Book::new();
-    let mut lines = [ResourceLine::Empty; 745];
-    let mut charges = [OLD; 2233];
-    check_eq(
-        number_of(book.tell(&lines, &charges, 1, 11, 3, &[1, 1])),
-        10,
-    )?;
-    check_eq(number_of(prepare(&mut book, &mut lines, &mut charges)), 0)?;
-    check_eq(
-        number_of(book.tell(&lines[0..743], &charges, 1, 13, 3, &[1, 1])),
-        7,
-    )?;
-    check_eq(
-        number_of(book.tell(&lines, &charges[0..2231], 0, 13, 3, &[1, 1])),
-        7,
-    )?;
-    check_eq(
-        number_of(book.tell(&lines, &charges, 0, 13, 3, &[1, 1])),
-        10,
-    )?;
-    check_eq(
-        number_of(book.tell(&lines, &charges, 32, 13, 3, &[1, 1])),
-        10,
-    )?;
-    check_eq(number_of(book.tell(&lines, &charges, 1, 0, 3, &[1, 1])), 10)?;
-    check_eq(
-        number_of(book.tell(&lines, &charges, 1, 25, 0, &[1, 1])),
-        10,
-    )?;
-    check_eq(
-        number_of(book.tell(&lines, &charges, 1, 11, 0, &[1, 1])),
-        11,
-    )?;
-    check_eq(number_of(book.tell(&lines, &charges, 31, 24, 0, &[1])), 12)?;
-    check_eq(
-        number_of(book.tell(&lines, &charges, 31, 24, 150_000_001, &[1, 1])),
-        12,
-    )?;
-    check_eq(number_of(book.tell(&lines, &charges, 31, 24, 3, &[4])), 13)?;
-    check_eq(
-        number_of(book.tell(&lines, &charges, 31, 24, 3, &[1, 1, 1])),
-        13,
-    )?;
-    check_eq(
-        number_of(book.tell(&lines, &charges, 31, 24, 3, &[2, 2])),
-        14,
-    )?;
-    check_eq(
-        number_of(book.tell(&lines, &charges, 31, 24, 3, &[4_294_967_295, 1])),
-        14,
-    )?;
-    let mut twin = Book::new();
-    let mut twin_lines = [ResourceLine::Empty; 745];
-    let mut twin_charges = [OLD; 2233];
-    check_eq(
-        number_of(prepare(&mut twin, &mut twin_lines, &mut twin_charges)),
-        0,
-    )?;
-    check(book == twin && lines == twin_lines && charges == twin_charges)?;
-    check_eq(
-        number_of(book.tell(&lines, &charges, 31, 24, 3, &[2, 1])),
-        0,
-    )?;
-    check(book != twin)?;
-    Ok(())
-}
-
-#[test]
-fn settling() -> Result<(), Fail> {
-    let book = Book::new();
-    let mut lines = [ResourceLine::Empty; 745];
-    let mut charges = [OLD; 2233];
-    let filed = source();
+// Settles an order outside its hours, and a day past the figures.
+fn settled_orders(book: &Book, lines: &mut [ResourceLine], charges: &[BuyerLine]) -> [u32; 3] {
     let order = Terms {
         order: 1,
         ..PLANNED
     };
-    check_eq(
-        number_of(book.settle(
-            &mut lines,
-            &charges,
-            0,
-            1,
-            11,
-            PLANNED,
-            &[1],
-            &filed,
-            &filed,
-        )),
-        10,
-    )?;
-    let mut book = book;
-    check_eq(number_of(prepare(&mut book, &mut lines, &mut charges)), 0)?;
-    check_eq(
-        number_of(book.settle(
-            &mut lines[0..743],
-            &charges,
-            0,
-            1,
-            12,
-            PLANNED,
-            &[1],
-            &filed,
-            &filed,
-        )),
-        7,
-    )?;
-    check_eq(
-        number_of(book.settle(
-            &mut lines,
-            &charges,
-            1,
-            1,
-            25,
-            PLANNED,
-            &[1],
-            &filed,
-            &filed,
-        )),
-        10,
-    )?;
-    check_eq(
-        number_of(book.settle(
-            &mut lines,
-            &charges,
-            1,
-            1,
-            11,
-            PLANNED,
-            &[1],
-            &filed,
-            &filed,
-        )),
-        20,
-    )?;
-    check_eq(
-        number_of(book.settle(
-            &mut lines,
-            &charges,
-            0,
-            1,
-            11,
-            Terms { plan: 0, ..PLANNED },
-            &[1],
-            &filed,
-            &filed,
-        )),
-        11,
-    )?;
-    check_eq(
-        number_of(book.settle(
-            &mut lines,
-            &charges,
-            0,
-            1,
-            12,
-            Terms {
-                plan: 0,
-                test: true,
-                ..PLANNED
-            },
-            &[1],
-            &filed,
-            &filed,
-        )),
-        21,
-    )?;
-    check_eq(
-        number_of(book.settle(
-            &mut lines,
-            &charges,
-            0,
-            1,
-            12,
-            Terms {
-                smp: 200_001,
-                test: true,
-                ..PLANNED
-            },
-            &[1],
-            &filed,
-            &filed,
-        )),
-        22,
-    )?;
-    check_eq(
-        number_of(book.settle(
-            &mut lines,
-            &charges,
-            0,
-            1,
-            13,
-            Terms {
-                test: true,
-                ..PLANNED
-            },
-            &[1],
-            &filed,
-            &filed,
-        )),
-        23,
-    )?;
-    check_eq(
-        number_of(book.settle(&mut lines, &charges, 0, 1, 13, order, &[1], &filed, &filed)),
-        24,
-    )?;
-    check_eq(
-        number_of(book.settle(&mut lines, &charges, 0, 5, 12, order, &[1], &filed, &filed)),
-        25,
-    )?;
-    check_eq(
-        number_of(book.settle(&mut lines, &charges, 0, 5, 12, order, &[0], &filed, &filed)),
-        26,
-    )?;
-    check_eq(number_of(book.withdraw(&mut lines, &charges, 0, 0, 11)), 10)?;
-    check_eq(number_of(book.withdraw(&mut lines, &charges, 1, 1, 11)), 20)?;
-    check_eq(number_of(book.withdraw(&mut lines, &charges, 0, 1, 11)), 11)?;
-    check_eq(number_of(book.withdraw(&mut lines, &charges, 0, 1, 13)), 28)?;
-    let mut twin = Book::new();
-    let mut twin_lines = [ResourceLine::Empty; 745];
-    let mut twin_charges = [OLD; 2233];
-    check_eq(
-        number_of(prepare(&mut twin, &mut twin_lines, &mut twin_charges)),
-        0,
-    )?;
-    check(book == twin && lines == twin_lines && charges == twin_charges)?;
-    Ok(())
+    [
+        settle(book, lines, charges, 0, 5, 13, order, 1),
+        settle(book, lines, charges, 0, 5, 12, order, 1),
+        settle(book, lines, charges, 0, 5, 12, order, 0),
+    ]
+}
+
+// Withdraws outside the month, an unknown resource, from an allotted hour, and where no line stands.
+fn withdrawn(book: &Book, lines: &mut [ResourceLine], charges: &[BuyerLine]) -> [u32; 4] {
+    [
+        withdraw(book, lines, charges, 1, 0, 11),
+        withdraw(book, lines, charges, 1, 1, 11),
+        withdraw(book, lines, charges, 0, 1, 11),
+        withdraw(book, lines, charges, 0, 1, 13),
+    ]
+}
+
+// Allots outside the month, an allotted hour, and one with no energies told.
+fn allotted(book: &mut Book, lines: &[ResourceLine], charges: &mut [BuyerLine]) -> [u32; 3] {
+    [
+        allot(book, lines, charges, 1, 0),
+        allot(book, lines, charges, 1, 11),
+        allot(book, lines, charges, 1, 13),
+    ]
+}
+
+// Reads lines and charges that are not there.
+fn read(book: &Book, lines: &[ResourceLine], charges: &[BuyerLine]) -> [u32; 6] {
+    [
+        read_line(book, lines, charges, 1, 1, 25),
+        read_line(book, lines, charges, 1, 1, 13),
+        read_line(book, lines, charges, 0, 1, 13),
+        read_charge(book, lines, charges, 3, 32, 11),
+        read_charge(book, lines, charges, 3, 1, 12),
+        read_charge(book, lines, charges, 2, 1, 12),
+    ]
+}
+
+// Whether each call on a prepared book is refused as it should be, and all is as it was.
+fn refused(book: &mut Book, lines: &mut [ResourceLine], charges: &mut [BuyerLine]) -> bool {
+    prepare(book, lines, charges) == 0
+        && told_hours(book, lines, charges) == [10, 10, 10, 10, 11]
+        && told_energies(book, lines, charges) == [12, 12, 13, 13, 14, 14]
+        && settled_terms(book, lines, charges) == [10, 20, 11, 21, 22, 23]
+        && settled_orders(book, lines, charges) == [24, 25, 26]
+        && withdrawn(book, lines, charges) == [10, 20, 11, 28]
+        && allotted(book, lines, charges) == [10, 11, 16]
+        && read(book, lines, charges) == [10, 20, 28, 10, 29, 17]
+        && as_prepared(book, lines, charges)
+}
+
+// Whether each call on a book not yet opened names no hour.
+fn unopened(book: &mut Book, lines: &mut [ResourceLine], charges: &mut [BuyerLine]) -> bool {
+    tell(book, lines, charges, 1, 11, 3, &[1, 1]) == 10
+        && settle(book, lines, charges, 0, 1, 11, PLANNED, 1) == 10
+        && allot(book, lines, charges, 1, 11) == 10
+        && read_line(book, lines, charges, 0, 1, 11) == 10
+}
+
+// Whether a prepared book refuses lists shorter than the measure before anything else.
+fn measured(book: &mut Book, lines: &mut [ResourceLine], charges: &mut [BuyerLine]) -> bool {
+    if lines.len() < 743 || charges.len() < 2231 {
+        return false;
+    }
+    tell(book, &lines[0..743], charges, 0, 11, 3, &[1, 1]) == 7
+        && tell(book, lines, &charges[0..2231], 0, 11, 3, &[1, 1]) == 7
+        && read_line(book, &lines[0..743], charges, 9, 0, 0) == 7
+        && read_charge(book, lines, &charges[0..2231], 9, 0, 0) == 7
+}
+
+#[test]
+fn every_refusal_leaves_all_as_it_was() -> Result<(), Fail> {
+    let mut book = Book::new();
+    let mut lines = [OLD_LINE; 745];
+    let mut charges = [OLD; 2233];
+    check(unopened(&mut book, &mut lines, &mut charges))?;
+    check(refused(&mut book, &mut lines, &mut charges))?;
+    check(measured(&mut book, &mut lines, &mut charges))
 }

@@ -1,5 +1,4 @@
 // What is wrong with a line of the text.
-use std::alloc::AllocError;
 use std::fmt;
 
 #[derive(Clone, Copy, PartialEq, Eq, Debug)]
@@ -11,7 +10,6 @@ pub enum Fault {
     OutOfRange,
     LoadsAndReadings,
     NoDay,
-    NoMemory,
 }
 
 // The first bad line, counted from 1, and what is wrong with it.
@@ -19,12 +17,6 @@ pub enum Fault {
 pub struct BadLine {
     pub line: usize,
     pub fault: Fault,
-}
-
-pub impl From<AllocError> for Fault as FaultFromAlloc {
-    fn from(_: AllocError) -> Fault {
-        Fault::NoMemory
-    }
 }
 
 pub impl fmt::Display for Fault as FaultDisplay {
@@ -37,7 +29,6 @@ pub impl fmt::Display for Fault as FaultDisplay {
             Fault::OutOfRange => f.write_str("out of range"),
             Fault::LoadsAndReadings => f.write_str("loads and readings in one text"),
             Fault::NoDay => f.write_str("no day named"),
-            Fault::NoMemory => f.write_str("no memory"),
         }
     }
 }

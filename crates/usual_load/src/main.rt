@@ -11,7 +11,7 @@ use load::register::RegisterLoads;
 use refusal::Refusal;
 use report::fault::BadLineDisplay;
 use report::hour::Purchases;
-use report::request::Meter;
+use report::meter::Meter;
 use report::request::Request;
 use report::usual::UsualDisplay;
 use report::usual::usual_load;
@@ -126,12 +126,12 @@ fn run(rt: &LibcRuntime) -> Result<(), AnyError> {
     let method = method_of(rt)?;
     let mut text = String::new(rt.alloc());
     rt.stdin().read_to_string(&mut text)?;
-    let request = match Request::read(rt.alloc(), text.as_str()) {
+    let request = match Request::new(rt.alloc())?.read(text.as_str()) {
         Ok(request) => request,
         Err(bad) => return Err(bad.to_string(rt.alloc())?.into()),
     };
     match request.meter() {
-        Meter::Readings => {
+        Some(Meter::Readings) => {
             let record = request.registers();
             let class = record.class(request.day());
             print_report(rt, &request, &request.source(record, method), class)

@@ -1,4 +1,3 @@
-use mathlib.Core.Path.{refl}
 use native.Mathlib.Omega.{arith}
 use Prim.Native.Nat.{_+_, _*_, _/_, _<_}
 use Rattle.std.proofs.shelf.Bits.{div-below}
@@ -9,4 +8,4 @@ returns c =
     let s = c .args .sum in
     let k = c .args .count in
     let below : (2 * s + k) / (2 * k) < 20000001 = div-below (2 * s + k) (2 * k) 20000001 (omega arith) (omega arith) in
-    record { value = refl; bounded = omega arith }
+    record { value = c .rounded-quotient .ensures .value; bounded = omega (arith, c .rounded-quotient .ensures .value) }

@@ -2,7 +2,7 @@ use Rattle.book.specs.Calls.{refusal}
 use Rattle.book.specs.Calls.Call.{finish}
 use Rattle.book.specs.Seen.{named-by}
 use Rattle.edges.specs.Keeping.{on-desk}
-use Rattle.edges.proofs.Back.{handed-back}
+use Rattle.book.proofs.Finishing.{handed-back}
 use Rattle.edges.proofs.desk.Desk.offer.Needs as need
 
 pub returns-in-Err : need.returns-in-Err

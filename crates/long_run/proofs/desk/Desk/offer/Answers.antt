@@ -2,7 +2,7 @@ use Rattle.book.specs.Calls.{refusal}
 use Rattle.book.specs.Calls.Call.{finish}
 use Rattle.book.specs.Seen.{named-by}
 use Rattle.long_run.specs.Keeping.{on-desk}
-use Rattle.long_run.proofs.Granted.{handed-back}
+use Rattle.book.proofs.Finishing.{handed-back}
 use Rattle.long_run.proofs.desk.Desk.offer.Needs as need
 
 pub returns-in-Err : need.returns-in-Err

@@ -1,0 +1,3 @@
+// Worked cases of the evening sheet.
+#[cfg(test)]
+mod sheets;
