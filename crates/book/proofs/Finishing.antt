@@ -1,4 +1,4 @@
--- A slip just handed out can be finished with, and telling, settling, withdrawing and allotting leave that so.
+-- A slip just handed out can be finished with, and all calls but the finishing of its hour leave that so.
 use Prim.Native.Nat.{ℕ, _+_, _*_, _<_, _≤_}
 use mathlib.Core.Path.{_≡_, refl, sym, ap, subst, _∙_}
 use mathlib.Core.Logic.{_≢_, ⊎-elim}
@@ -10,6 +10,7 @@ use lib.ListN.{length, getD, length-set}
 use lib.Seq.{getD-set-same, getD-set-other}
 use Rattle.std.specs.declared.option.Option.{Option}
 use Rattle.std.specs.declared.option.Option.the-variants.{Some, None}
+use Rattle.std.specs.declared.result.Result.the-variants.{Ok, Err}
 use Rattle.std.proofs.shelf.Tests.{cases-lt, both-ways, and-parts, and-from, eq-eqb, not-false}
 use Rattle.std.proofs.shelf.Lists.{getD-past, set-past}
 use Rattle.refusal.specs.declared.Refusal.{Refusal}
@@ -22,10 +23,13 @@ use Rattle.table.proofs.Filling.{length-filled}
 use Rattle.book.specs.declared.energies.Energies.{Energies}
 use Rattle.book.specs.declared.hour.Hour.{Hour}
 use Rattle.book.specs.declared.hour.Hour.the-variants.{Blank, Told, Allotted, Correcting}
+use Rattle.book.specs.declared.slip.Slip as paper
+use Rattle.book.specs.declared.slip.RefusedSlip.{RefusedSlip}
 use Rattle.book.specs.Hours.{is-allotted, is-correcting, told-anew, as-correcting}
 use Rattle.book.specs.State.{State, hours-of, in-month, place, hour-at, short-for}
 use Rattle.book.specs.Calls.{Slip, Settling, Call, named, of-book, slip-for, tests, refusal, effect, state-by, step, with-energies, with-line, with-row, reopened}
 use Rattle.book.specs.Calls.Call.{tell, settle, withdraw, allot, reopen, finish}
+use Rattle.book.specs.Seen.{back-or}
 use Rattle.book.proofs.Places.{at-place}
 use Rattle.book.proofs.Refused.{passed, not-refused}
 use Rattle.book.proofs.History.{allotted-corrects, anew-correcting}

@@ -5,6 +5,7 @@ mod lines;
 mod openings;
 mod outcome;
 mod records;
+mod sheets;
 mod slips;
 mod sources;
 
@@ -42,7 +43,9 @@ fn of_books(rt: &LibcRuntime, tally: &mut Tally) -> Result<(), AnyError> {
     calls::unopened(rt, tally)?;
     calls::lists(rt, tally)?;
     slips::corrections(rt, tally)?;
-    slips::other_books(rt, tally)
+    slips::other_books(rt, tally)?;
+    sheets::sheets(rt, tally)?;
+    sheets::head_lines(rt, tally)
 }
 
 fn run(rt: &LibcRuntime) -> Result<(), AnyError> {

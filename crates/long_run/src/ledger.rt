@@ -278,4 +278,35 @@ impl Ledger {
         }
         sums
     }
+
+    // What a resource is paid and fined over the allotted hours.
+    pub fn resource_sums(&self, resource: usize) -> (i64, i64) {
+        let mut paid: i64 = 0;
+        let mut fined: i64 = 0;
+        for h in 0..720 {
+            let note = self.hours[h];
+            if note.state == 1 && resource < 3 {
+                if let Some(entry) = note.entries[resource] {
+                    paid = paid.saturating_add(entry.plan_pay)
+                        .saturating_add(entry.order_pay);
+                    fined = fined.saturating_add(entry.fined);
+                }
+            }
+        }
+        (paid, fined)
+    }
+
+    // What a buyer is charged and refunded over the allotted hours.
+    pub fn buyer_sums(&self, buyer: usize) -> (i64, i64) {
+        let mut charged: i64 = 0;
+        let mut refunded: i64 = 0;
+        for h in 0..720 {
+            let note = self.hours[h];
+            if note.state == 1 {
+                charged = charged.saturating_add(share(note.paid(), note.purchases, buyer));
+                refunded = refunded.saturating_add(share(note.fined(), note.purchases, buyer));
+            }
+        }
+        (charged, refunded)
+    }
 }

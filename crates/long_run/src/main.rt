@@ -7,6 +7,7 @@ mod meters;
 mod openings;
 mod plain;
 mod random;
+mod sheets;
 mod sources;
 mod trial;
 
@@ -20,6 +21,7 @@ use ledger::Ledger;
 use meters::Meters;
 use openings::try_open;
 use random::Random;
+use sheets::try_sheet;
 use std::error::AnyError;
 use trial::FIRST_DAY;
 use trial::MONTH;
@@ -29,7 +31,7 @@ use trial::compare_hour;
 use trial::compare_sums;
 
 // How many turns there are; a correction is one turn with several calls.
-const TURNS: u32 = 5_000;
+const TURNS: u32 = 8_000;
 
 // A resource as the opening names it.
 fn registration(r: usize) -> Registration {
@@ -79,6 +81,7 @@ fn begin() -> Trial {
         random,
         counts,
         month_classes,
+        focus: (0, 0),
     }
 }
 
@@ -90,6 +93,7 @@ fn compare_month(trial: &mut Trial) {
         }
     }
     compare_sums(&trial.desk, &trial.ledger, &mut trial.counts);
+    try_sheet(&trial.desk, &trial.ledger, &mut trial.counts);
 }
 
 // One turn of the trial.
@@ -112,7 +116,9 @@ fn print_counts(rt: &LibcRuntime, counts: &Counts) -> Result<(), AnyError> {
     }
     println!(rt, "granted {}", counts.refusals[0])?;
     for number in 1..31 {
-        println!(rt, "refusal {} came {}", number, counts.refusals[number])?;
+        if counts.refusals[number] > 0 {
+            println!(rt, "refusal {} came {}", number, counts.refusals[number])?;
+        }
     }
     println!(
         rt,

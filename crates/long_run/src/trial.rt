@@ -34,7 +34,7 @@ use refusal::Refusal;
 use settlement::terms::Line;
 use settlement::terms::Terms;
 
-// The desk, another desk whose book has another number, and what the first should hold.
+// The desk, another desk whose book has another number, what the first should hold, and the hour being corrected.
 #[derive(Drop)]
 pub struct Trial {
     pub desk: Desk,
@@ -44,6 +44,7 @@ pub struct Trial {
     pub random: Random,
     pub counts: Counts,
     pub month_classes: [u8; 30],
+    pub focus: (u32, u32),
 }
 
 // The month of the trial, April, and its first day in the sources.
@@ -108,8 +109,11 @@ fn marks(random: &mut Random) -> [u8; 4] {
     marks
 }
 
-// A day and an hour: mostly one of a few hours of the month, now and then none of it.
-fn pick(random: &mut Random) -> (u32, u32) {
+// A day and an hour: often the one in focus, mostly one of the month, now and then none of it.
+fn pick(random: &mut Random, focus: (u32, u32)) -> (u32, u32) {
+    if focus.0 != 0 && random.one_in(2) {
+        return focus;
+    }
     if random.one_in(40) {
         return (random.below(33), random.below(27));
     }
@@ -117,7 +121,7 @@ fn pick(random: &mut Random) -> (u32, u32) {
     if random.one_in(8) {
         return (day, 1 + random.below(24));
     }
-    (day, 10 + random.below(4))
+    (day, 9 + random.below(9))
 }
 
 // A resource or a buyer, now and then an unknown one.
@@ -199,7 +203,7 @@ pub fn compare_sums(desk: &Desk, ledger: &Ledger, counts: &mut Counts) {
 
 // Reads a line, over whole lists or over one that is a place too short.
 fn try_read_line(desk: &Desk, ledger: &Ledger, counts: &mut Counts, random: &mut Random) {
-    let (day, hour) = pick(random);
+    let (day, hour) = pick(random, (0, 0));
     let r = pick_number(random);
     if random.one_in(10) {
         let short = desk.book
@@ -226,7 +230,7 @@ fn try_read_line(desk: &Desk, ledger: &Ledger, counts: &mut Counts, random: &mut
 
 // Reads a charge, over whole lists or over one that is a place too short.
 fn try_read_charge(desk: &Desk, ledger: &Ledger, counts: &mut Counts, random: &mut Random) {
-    let (day, hour) = pick(random);
+    let (day, hour) = pick(random, (0, 0));
     let k = pick_number(random);
     if random.one_in(10) {
         let short = desk.book
@@ -295,7 +299,7 @@ impl Trial {
     fn try_tell(&mut self)
         ensures keeps { λ _. ⌜ Keeps (on-desk (now (self .entry) .desk)) (on-desk (now (self .exit) .desk)) ⌝ }
     {
-        let (day, hour) = pick(&mut self.random);
+        let (day, hour) = pick(&mut self.random, self.focus);
         let total = total(&mut self.random);
         let others = [
             self.random.below(500),
@@ -339,7 +343,7 @@ impl Trial {
     fn try_settle(&mut self)
         ensures keeps { λ _. ⌜ Keeps (on-desk (now (self .entry) .desk)) (on-desk (now (self .exit) .desk)) ⌝ }
     {
-        let (day, hour) = pick(&mut self.random);
+        let (day, hour) = pick(&mut self.random, self.focus);
         let q = Settling {
             resource: pick_number(&mut self.random),
             day,
@@ -375,7 +379,7 @@ impl Trial {
     fn try_withdraw(&mut self)
         ensures keeps { λ _. ⌜ Keeps (on-desk (now (self .entry) .desk)) (on-desk (now (self .exit) .desk)) ⌝ }
     {
-        let (day, hour) = pick(&mut self.random);
+        let (day, hour) = pick(&mut self.random, self.focus);
         let resource = pick_number(&mut self.random);
         let expected = self.ledger.withdraw(resource, day, hour);
         let got = self.desk.withdraw(resource, day, hour);
@@ -387,7 +391,7 @@ impl Trial {
     fn try_allot(&mut self)
         ensures keeps { λ _. ⌜ Keeps (on-desk (now (self .entry) .desk)) (on-desk (now (self .exit) .desk)) ⌝ }
     {
-        let (day, hour) = pick(&mut self.random);
+        let (day, hour) = pick(&mut self.random, self.focus);
         let expected = self.ledger.allot(day, hour);
         let got = self.desk.allot(day, hour);
         self.counts.note(ALLOT, expected, got);
@@ -421,19 +425,19 @@ impl Trial {
         ensures keeps { λ _. ⌜ Keeps (on-desk (now (self .entry) .desk)) (on-desk (now (self .exit) .desk)) ⌝ }
     {
         let k = self.random.below(16);
-        if k < 7 {
+        if k < 8 {
             self.try_settle();
             return;
         }
-        if k < 10 {
+        if k < 11 {
             self.try_tell();
             return;
         }
-        if k < 11 {
+        if k < 12 {
             self.try_withdraw();
             return;
         }
-        if k < 14 {
+        if k < 13 {
             self.try_allot();
             return;
         }
@@ -455,7 +459,7 @@ impl Trial {
     fn correct_within(&mut self)
         ensures keeps { λ _. ⌜ Keeps (on-desk (now (self .entry) .desk)) (on-desk (now (self .exit) .desk)) ⌝ }
     {
-        let (day, hour) = pick(&mut self.random);
+        let (day, hour) = pick(&mut self.random, self.focus);
         let expected = self.ledger.reopen(day, hour);
         match self.desk.reopen(day, hour) {
             Err(code) => self.counts.note(REOPEN, expected, code),
@@ -484,13 +488,15 @@ impl Trial {
 
     // Reopens an hour, corrects it and perhaps another meanwhile, and finishes it.
     pub fn correct(&mut self) {
-        let (day, hour) = pick(&mut self.random);
+        let (day, hour) = pick(&mut self.random, self.focus);
         let expected = self.ledger.reopen(day, hour);
         match self.desk.reopen(day, hour) {
             Err(code) => self.counts.note(REOPEN, expected, code),
             Ok(slip) => {
                 self.counts.note(REOPEN, expected, 0);
+                self.focus = (day, hour);
                 self.amend(day, hour, slip);
+                self.focus = (0, 0);
             }
         }
     }
