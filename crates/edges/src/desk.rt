@@ -141,7 +141,7 @@ impl Desk {
                     1 => line.dr,
                     2 => i64::try_from(line.dlr).unwrap_or(-1),
                     3 => i64::try_from(line.slr).unwrap_or(-1),
-                    4 => i64::from(line.plan_pay) + i64::from(line.order_pay),
+                    4 => line.paid,
                     _ => i64::from(line.fined),
                 },
             ),

@@ -62,8 +62,7 @@ impl HourNote {
         let mut sum: i64 = 0;
         for r in 0..3 {
             if let Some(entry) = self.entries[r] {
-                sum = sum.saturating_add(entry.plan_pay)
-                    .saturating_add(entry.order_pay);
+                sum = sum.saturating_add(entry.paid);
             }
         }
         sum
@@ -287,8 +286,7 @@ impl Ledger {
             let note = self.hours[h];
             if note.state == 1 && resource < 3 {
                 if let Some(entry) = note.entries[resource] {
-                    paid = paid.saturating_add(entry.plan_pay)
-                        .saturating_add(entry.order_pay);
+                    paid = paid.saturating_add(entry.paid);
                     fined = fined.saturating_add(entry.fined);
                 }
             }

@@ -42,8 +42,7 @@ pub struct Entry {
     pub dr: i64,
     pub dlr: i64,
     pub slr: i64,
-    pub plan_pay: i64,
-    pub order_pay: i64,
+    pub paid: i64,
     pub fined: i64,
 }
 
@@ -377,8 +376,7 @@ fn figures(terms: Terms, sr: i64, dr: i64) -> Entry {
         dr,
         dlr,
         slr,
-        plan_pay: money(slr, terms.smp),
-        order_pay: money(dlr, price),
+        paid: money(slr, terms.smp).saturating_add(money(dlr, price)),
         fined: money(short, terms.smp),
     }
 }

@@ -29,9 +29,9 @@ use crate::sources::TEXTS;
 use crate::sources::choice_of;
 use crate::sources::settle_by;
 use baseline::method::Method;
+use book::read::LineReading;
 use book::slip::Slip;
 use refusal::Refusal;
-use settlement::terms::Line;
 use settlement::terms::Terms;
 
 // The desk, another desk whose book has another number, what the first should hold, and the hour being corrected.
@@ -56,7 +56,7 @@ pub const FIRST_DAY: u32 = 40;
 pub const RESOURCES: [(u32, u32, u32); 3] = [(1, 12, 2), (3, 99, 4), (2, 1, 3)];
 
 // A line of the book as the plain reckoning writes it.
-fn entry_of(line: Line) -> Entry {
+fn entry_of(line: LineReading) -> Entry {
     Entry {
         plan: i64::from(line.plan),
         order: i64::from(line.order),
@@ -64,8 +64,7 @@ fn entry_of(line: Line) -> Entry {
         dr: line.dr,
         dlr: i64::try_from(line.dlr).unwrap_or(-1),
         slr: i64::try_from(line.slr).unwrap_or(-1),
-        plan_pay: i64::from(line.plan_pay),
-        order_pay: i64::from(line.order_pay),
+        paid: line.paid,
         fined: i64::from(line.fined),
     }
 }
