@@ -14,7 +14,7 @@ pub struct Meters {
 
 // A load in Wh: few steps, so that equal ones are common, and now and then the greatest or one too great.
 fn load(random: &mut Random) -> u32 {
-    match random.below(600) {
+    match random.below(150) {
         0 => 20_000_001,
         1 => 20_000_000,
         _ => random.below(40) * 50_000,
@@ -23,7 +23,7 @@ fn load(random: &mut Random) -> u32 {
 
 // A filed baseline in Wh, now and then at or past a bound.
 fn baseline(random: &mut Random) -> i32 {
-    match random.below(600) {
+    match random.below(150) {
         0 => 40_000_001,
         1 => -40_000_001,
         2 => -40_000_000,
@@ -34,7 +34,7 @@ fn baseline(random: &mut Random) -> i32 {
 
 // A reading after one more hour: the register goes round, and now and then a reading is none.
 fn reading(random: &mut Random, before: u32) -> u32 {
-    if random.one_in(900) {
+    if random.one_in(200) {
         1_000_000_000
     } else {
         before.wrapping_add(load(random)) % 1_000_000_000

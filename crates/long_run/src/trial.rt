@@ -50,7 +50,7 @@ pub struct Trial {
 // The month of the trial, April, and its first day in the sources.
 pub const MONTH: u32 = 4;
 
-pub const FIRST_DAY: u32 = 40;
+pub const FIRST_DAY: u32 = 20;
 
 // Kind, aggregator and customers of the resources.
 pub const RESOURCES: [(u32, u32, u32); 3] = [(1, 12, 2), (3, 99, 4), (2, 1, 3)];
