@@ -94,6 +94,23 @@ pub(crate) fn allot(
     number_of(book.allot(lines, charges, day, hour))
 }
 
+// Reopens, and finishes at once if that is not refused.
+pub(crate) fn reopen(
+    book: &mut Book,
+    lines: &[ResourceLine],
+    charges: &mut [BuyerLine],
+    day: u32,
+    hour: u32,
+) -> u32 {
+    match book.reopen(lines, charges, day, hour) {
+        Ok(slip) => match book.finish(lines, charges, slip) {
+            Ok(()) => 0,
+            Err(_refused) => unreachable(),
+        },
+        Err(refusal) => refusal.number(),
+    }
+}
+
 // Withdraws.
 pub(crate) fn withdraw(
     book: &Book,

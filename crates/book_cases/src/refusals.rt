@@ -7,6 +7,7 @@ use crate::desk::as_prepared;
 use crate::desk::prepare;
 use crate::desk::read_charge;
 use crate::desk::read_line;
+use crate::desk::reopen;
 use crate::desk::settle;
 use crate::desk::tell;
 use crate::desk::withdraw;
@@ -97,6 +98,16 @@ fn allotted(book: &mut Book, lines: &[ResourceLine], charges: &mut [BuyerLine]) 
     ]
 }
 
+// Reopens outside the month, an hour that is only told, one that is blank, and an allotted one.
+fn reopened(book: &mut Book, lines: &[ResourceLine], charges: &mut [BuyerLine]) -> [u32; 4] {
+    [
+        reopen(book, lines, charges, 32, 11),
+        reopen(book, lines, charges, 1, 12),
+        reopen(book, lines, charges, 1, 13),
+        reopen(book, lines, charges, 1, 11),
+    ]
+}
+
 // Reads lines and charges that are not there.
 fn read(book: &Book, lines: &[ResourceLine], charges: &[BuyerLine]) -> [u32; 6] {
     [
@@ -118,6 +129,7 @@ fn refused(book: &mut Book, lines: &mut [ResourceLine], charges: &mut [BuyerLine
         && settled_orders(book, lines, charges) == [24, 25, 26]
         && withdrawn(book, lines, charges) == [10, 20, 11, 28]
         && allotted(book, lines, charges) == [10, 11, 16]
+        && reopened(book, lines, charges) == [10, 17, 17, 0]
         && read(book, lines, charges) == [10, 20, 28, 10, 29, 17]
         && as_prepared(book, lines, charges)
 }
@@ -141,6 +153,18 @@ fn measured(book: &mut Book, lines: &mut [ResourceLine], charges: &mut [BuyerLin
         && read_charge(book, lines, &charges[0..2231], 9, 0, 0) == 7
 }
 
+// Whether it does so in the calls that change a list.
+fn measured_too(book: &mut Book, lines: &mut [ResourceLine], charges: &mut [BuyerLine]) -> bool {
+    if lines.len() < 743 || charges.len() < 2231 {
+        return false;
+    }
+    settle(book, lines, &charges[0..2231], 9, 0, 0, PLANNED, 1) == 7
+        && withdraw(book, lines, &charges[0..2231], 9, 0, 0) == 7
+        && allot(book, &lines[0..743], charges, 0, 0) == 7
+        && reopen(book, &lines[0..743], charges, 0, 0) == 7
+        && as_prepared(book, lines, charges)
+}
+
 #[test]
 fn every_refusal_leaves_all_as_it_was() -> Result<(), Fail> {
     let mut book = Book::new();
@@ -148,5 +172,6 @@ fn every_refusal_leaves_all_as_it_was() -> Result<(), Fail> {
     let mut charges = [OLD; 2233];
     check(unopened(&mut book, &mut lines, &mut charges))?;
     check(refused(&mut book, &mut lines, &mut charges))?;
-    check(measured(&mut book, &mut lines, &mut charges))
+    check(measured(&mut book, &mut lines, &mut charges))?;
+    check(measured_too(&mut book, &mut lines, &mut charges))
 }
