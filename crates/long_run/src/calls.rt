@@ -103,7 +103,7 @@ impl Desk {
     }
 
     // Finishes an hour with a slip that is known to be good.
-    pub fn finish(&mut self, slip: Slip)
+    pub(crate) fn finish(&mut self, slip: Slip)
         requires { ⌜ Finishes (on-desk (now self)) (named-by slip) ⌝ }
         ensures keeps { λ _. ⌜ Keeps-others (on-desk (now (self .entry))) (named-by slip) (on-desk (now (self .exit))) ⌝ }
     {

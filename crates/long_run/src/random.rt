@@ -17,7 +17,7 @@ impl Random {
     }
 
     // A number below a limit.
-    pub fn below(&mut self, limit: u32) -> u32
+    pub(crate) fn below(&mut self, limit: u32) -> u32
         requires some { ⌜ 0 < limit ⌝ }
         ensures bounded { λ r. ⌜ r < limit ⌝ }
     {
@@ -25,7 +25,7 @@ impl Random {
     }
 
     // Whether one chance in so many comes up.
-    pub fn one_in(&mut self, limit: u32) -> bool
+    pub(crate) fn one_in(&mut self, limit: u32) -> bool
         requires some { ⌜ 0 < limit ⌝ }
     {
         self.next() % limit == 0
