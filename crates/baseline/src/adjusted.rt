@@ -72,7 +72,7 @@ impl<S: BaselineSource> Adjusted<'_, S> {
     // A customer's baseline of a day, adjusted if every load and profile before the day's first order exists.
     fn brought(&self, customer: u32, day: u32, baseline: i32) -> i32
         requires baseline { WithinBounds baseline }
-        ensures value { result ≡ brought_by baseline (gap_on (meaning self.now.below) self.now.starts.now customer day) }
+        ensures value { result ≡ brought_by baseline (gap_on (S.meaning self.now.below) self.now.starts.now customer day) }
         ensures bounded { WithinBounds result }
     {
         let start = start_of(self.starts, day);

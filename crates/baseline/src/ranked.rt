@@ -51,7 +51,7 @@ impl<R: LoadRecord> Ranked<R> {
 
     // The day as a reference day, if it stands and has a load in the hour.
     fn reference_on(&self, customer: u32, day: u32, hour: u32) -> Option<Reference>
-        ensures value { result ≡ reference_on (meaning self.now.loads) customer hour day }
+        ensures value { result ≡ reference_on (R.meaning self.now.loads) customer hour day }
     {
         if !self.loads.stands(customer, day) {
             return None;
@@ -62,7 +62,7 @@ impl<R: LoadRecord> Ranked<R> {
 
     // The reference days before a day, newest first.
     fn reference_days(&self, customer: u32, day: u32, hour: u32) -> References
-        ensures value { listed result ≡ reference_days (meaning self.now.loads) self.now.method customer day hour }
+        ensures value { listed result ≡ reference_days (R.meaning self.now.loads) self.now.method customer day hour }
     {
         let mut days = [Reference { day: 0, load: 0 }; 10];
         let mut count = 0;
@@ -93,7 +93,7 @@ impl<R: LoadRecord> Ranked<R> {
     ) -> Result<u32, Cause>
         requires few { length days.now ≤ 10 }
         requires some { 0 < length (unstruck low high days.now) }
-        ensures value { result ≡ mean_load (meaning self.now.loads) customer hour (unstruck low high days.now) }
+        ensures value { result ≡ mean_load (R.meaning self.now.loads) customer hour (unstruck low high days.now) }
         ensures bounded { IfOk result (λ v. v ≤ 20000000) }
     {
         let mut sum = 0;
@@ -112,7 +112,7 @@ impl<R: LoadRecord> Ranked<R> {
 
     // The mean in hour `at` over the days chosen for `hour`.
     fn mean_of_days(&self, customer: u32, day: u32, hour: u32, at: u32) -> Result<u32, Cause>
-        ensures value { result ≡ profile_of (meaning self.now.loads) self.now.method customer day hour at }
+        ensures value { result ≡ profile_of (R.meaning self.now.loads) self.now.method customer day hour at }
         ensures bounded { IfOk result (λ v. v ≤ 20000000) }
     {
         if !is_in_range(customer, day, hour) || !is_hour(at) {

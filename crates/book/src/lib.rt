@@ -1,4 +1,6 @@
 // The month's book: its hours, its calls over two lent lists of lines, and what they add up to.
+#![tactic(auto)]
+
 mod allot;
 pub mod book;
 pub mod energies;

@@ -1,4 +1,6 @@
 // The book's calls tried: corrections in orders nobody planned, every refusal at its edge, and whole runs.
+#![tactic(auto)]
+
 pub mod corrections;
 #[cfg(test)]
 mod desk;

@@ -1,4 +1,6 @@
 // Every edge and every misreading of the rules, each with what it should come to and what it comes to.
+#![tactic(auto)]
+
 mod calls;
 mod desk;
 mod lines;

@@ -1,4 +1,6 @@
 // Settles an hour of May, allots it, reconciles the month, and prints the evening sheet.
+#![tactic(auto)]
+
 ghost use Rattle.std.specs.Prelude.{◌≤◌, length, IfOk};
 
 use baseline::method::Method;

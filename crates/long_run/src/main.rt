@@ -1,4 +1,6 @@
 // Some thousands of calls on a month's book, each compared with a plain reckoning, and what they come to.
+#![tactic(auto)]
+
 mod calls;
 mod counts;
 mod desk;

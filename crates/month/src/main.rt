@@ -1,4 +1,6 @@
 // A month's book from its opening to the control totals: an hour is settled from meter readings, allotted, and corrected twice.
+#![tactic(auto)]
+
 use baseline::method::Method;
 use baseline::ranked::Ranked;
 use baseline::source::BaselineSource;

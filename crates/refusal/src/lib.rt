@@ -1,4 +1,6 @@
 // Why a call is refused, and why a source has no figure.
+#![tactic(auto)]
+
 ghost use Rattle.std.specs.Prelude.{◌≡◌};
 ghost use Rattle.refusal.specs.Numbers.{cause_number, refusal_number};
 

@@ -1,4 +1,6 @@
 // The report of the usual load: a text of meter readings, and what a baseline source says of one day.
+#![tactic(auto)]
+
 mod asked;
 pub mod fault;
 mod fields;

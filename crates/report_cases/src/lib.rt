@@ -1,4 +1,6 @@
 // Worked cases of the text of a report.
+#![tactic(auto)]
+
 #[cfg(test)]
 mod asked;
 #[cfg(test)]

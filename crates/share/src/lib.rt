@@ -1,4 +1,6 @@
 // Shares of an amount of won, by weight.
+#![tactic(auto)]
+
 ghost use Rattle.std.specs.Prelude.{◌≡◌, ◌*◌, ◌^◌, ◌<◌, ◌≤◌, true, length, pos, ◌-ℤ◌, ◌*ℤ◌, ◌<ℤ◌, is_some, IfSome, sum, nat_le, unsigned_abs};
 ghost use Rattle.std.specs.Int.{int_div_euclid};
 ghost use Rattle.share.specs.Shares.{shared};

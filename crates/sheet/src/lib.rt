@@ -1,4 +1,6 @@
 // The evening sheet: entries of a key and a number, written forward into a lent buffer.
+#![tactic(auto)]
+
 pub mod entry;
 mod gather;
 mod page;

@@ -1,3 +1,5 @@
 // Worked cases of the evening sheet.
+#![tactic(auto)]
+
 #[cfg(test)]
 mod sheets;

@@ -1,4 +1,6 @@
 // Worked cases of load records and baseline sources.
+#![tactic(auto)]
+
 #[cfg(test)]
 mod records;
 #[cfg(test)]

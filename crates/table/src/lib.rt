@@ -1,4 +1,6 @@
 // One table over a lent slice of lines, with a row of places for each hour.
+#![tactic(auto)]
+
 pub mod lines;
 pub mod table;
 

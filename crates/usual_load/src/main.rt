@@ -1,4 +1,6 @@
 // Prints the usual load of each customer in each hour of a day, and the money of an hour: the text on standard input, the method as the argument.
+#![tactic(auto)]
+
 use anyhow::anyhow;
 use baseline::method::Method;
 use baseline::source::BaselineSource;

@@ -7,43 +7,43 @@ use Rattle.share.proofs.share_out.Goals as goal
 
 pub returns-then-total-eq0 : goal.returns-then-total-eq0
 returns-then-total-eq0 c =
-    let m : length c.args.weights.now ≤ 16 = leb-true _ _ (sym c.if-not-have-places.ensures.value) in
+    let m : length c.args.weights.now ≤ 16 = leb-true _ _ (sym c.if-not-have_places.ensures.value) in
     let s = shared_none c.args.amount c.args.weights.now in
-    let k = shared_out c.args.amount c.args.weights.now (replicate 16 (pos 0)) m s.0 (each_nothing c.args.amount c.args.weights.now (replicate 16 (pos 0)) (sym c.total-of-total.ensures.value ∙ c.if-total-eq0.true) s) in
+    let k = shared_out c.args.amount c.args.weights.now (replicate 16 (pos 0)) m s.0 (each_nothing c.args.amount c.args.weights.now (replicate 16 (pos 0)) (sym c.total_of-total.ensures.value ∙ c.if-total-eq0.true) s) in
     record { value = k.value; some = λ _. refl; each = k.each; adds = k.adds; near = k.near; none = k.none; within = k.within; bounded = k.bounded }
 
-pub overflow-add-upto : goal.overflow-add-upto
-overflow-add-upto c =
-    let m = weight_turn c.args.weights.now c.loop-k.k c.loop-k.before c.total-of-total.result c.loop-k.invariant.0 c.total-of-total.ensures.value in
+pub overflow_add-upto : goal.overflow_add-upto
+overflow_add-upto c =
+    let m = weight_turn c.args.weights.now c.loop-k.k c.loop-k.before c.total_of-total.result c.loop-k.invariant.0 c.total_of-total.ensures.value in
     omega arith
 
-pub share-of-share-requires : goal.share-of-share-requires
-share-of-share-requires c =
-    let m = weight_turn c.args.weights.now c.loop-k.k c.loop-k.before c.total-of-total.result c.loop-k.invariant.0 c.total-of-total.ensures.value in
+pub share_of-share-requires : goal.share_of-share-requires
+share_of-share-requires c =
+    let m = weight_turn c.args.weights.now c.loop-k.k c.loop-k.before c.total_of-total.result c.loop-k.invariant.0 c.total_of-total.ensures.value in
     record { some = omega arith; within = (omega arith, omega arith); small = omega arith }
 
 -- the amount, passed, is itself, and the share is the definition's
-passed : (c : goal.After-share-of-share) → SFits w64 (to_z w64 (of_z w64 c.args.amount))
+passed : (c : goal.After-share_of-share) → SFits w64 (to_z w64 (of_z w64 c.args.amount))
 passed c = let f = c.ranges.amount in omega (arith, ints)
 
-shared_is : (c : goal.After-share-of-share) → c.share-of-share.result ≡ share (to_z w64 (of_z w64 c.args.amount)) c.args.weights.now c.loop-k.k
+shared_is : (c : goal.After-share_of-share) → c.share_of-share.result ≡ share (to_z w64 (of_z w64 c.args.amount)) c.args.weights.now c.loop-k.k
 shared_is c =
-    let m = weight_turn c.args.weights.now c.loop-k.k c.loop-k.before c.total-of-total.result c.loop-k.invariant.0 c.total-of-total.ensures.value in
-    c.share-of-share.ensures.value ∙ share_from (to_z w64 (of_z w64 c.args.amount)) c.args.weights.now c.loop-k.k _ _ _ c.loop-k.invariant.0 m.0 c.total-of-total.ensures.value
+    let m = weight_turn c.args.weights.now c.loop-k.k c.loop-k.before c.total_of-total.result c.loop-k.invariant.0 c.total_of-total.ensures.value in
+    c.share_of-share.ensures.value ∙ share_from (to_z w64 (of_z w64 c.args.amount)) c.args.weights.now c.loop-k.k _ _ _ c.loop-k.invariant.0 m.0 c.total_of-total.ensures.value
 
-pub overflow-cast-shares : goal.overflow-cast-shares
-overflow-cast-shares c = written_fits (to_z w64 (of_z w64 c.args.amount)) c.share-of-share.result c.args.weights.now c.loop-k.k (passed c) (shared_is c)
+pub overflow_cast-shares : goal.overflow_cast-shares
+overflow_cast-shares c = written_fits (to_z w64 (of_z w64 c.args.amount)) c.share_of-share.result c.args.weights.now c.loop-k.k (passed c) (shared_is c)
 
 pub loop-k-preserved : goal.loop-k-preserved
 loop-k-preserved c =
-    let m = weight_turn c.args.weights.now c.loop-k.k c.loop-k.before c.total-of-total.result c.loop-k.invariant.0 c.total-of-total.ensures.value in
-    let room : length c.args.weights.now ≤ 16 = leb-true _ _ (sym c.if-not-have-places.ensures.value) in
-    let v = written_is (to_z w64 (of_z w64 c.args.amount)) c.share-of-share.result c.args.weights.now c.loop-k.k (passed c) (shared_is c) in
+    let m = weight_turn c.args.weights.now c.loop-k.k c.loop-k.before c.total_of-total.result c.loop-k.invariant.0 c.total_of-total.ensures.value in
+    let room : length c.args.weights.now ≤ 16 = leb-true _ _ (sym c.if-not-have_places.ensures.value) in
+    let v = written_is (to_z w64 (of_z w64 c.args.amount)) c.share_of-share.result c.args.weights.now c.loop-k.k (passed c) (shared_is c) in
     (m.0, shared_more (to_z w64 (of_z w64 c.args.amount)) _ c.args.weights.now c.loop-k.k c.loop-k.shares c.loop-k-test.true room v c.loop-k.invariant.1)
 
 pub returns : goal.returns
 returns c =
-    let m : length c.args.weights.now ≤ 16 = leb-true _ _ (sym c.if-not-have-places.ensures.value) in
+    let m : length c.args.weights.now ≤ 16 = leb-true _ _ (sym c.if-not-have_places.ensures.value) in
     let P : ℤ → Type 0 = λ a. SharedUpto a c.args.weights.now c.loop-k.k c.loop-k.shares in
     let s : P c.args.amount = subst P (to_z-of_z w64 c.args.amount c.ranges.amount) c.loop-k.invariant.1 in
     let k = shared_out c.args.amount c.args.weights.now c.loop-k.shares m s.0 (each_share c.args.amount c.args.weights.now c.loop-k.k c.loop-k.shares c.loop-k-test.false s) in

@@ -7,4 +7,4 @@ returns c =
     let s = c.args.sum in
     let k = c.args.count in
     let below : (2 * s + k) / (2 * k) < 20000001 = div_below (2 * s + k) (2 * k) 20000001 (omega arith) (omega arith) in
-    record { value = c.rounded-quotient.ensures.value; bounded = omega (arith, c.rounded-quotient.ensures.value) }
+    record { value = c.rounded_quotient.ensures.value; bounded = omega (arith, c.rounded_quotient.ensures.value) }

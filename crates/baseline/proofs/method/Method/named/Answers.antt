@@ -4,9 +4,9 @@ use Rattle.baseline.proofs.Named.{in_no_row, of_terms}
 use Rattle.baseline.proofs.method.Method.named.Goals as goal
 use Rattle.baseline.proofs.method.Method.named.Goals.{in-max45, in-mid610, in-mid46, in-mid810, in-hmax45, in-hmid610, in-hmid46}
 
-pub returns-in-default : goal.returns-in-default
-returns-in-default c =
-    let r = c.in-default in
+pub returns-in_default : goal.returns-in_default
+returns-in_default c =
+    let r = c.in_default in
     record { value = sym (in_no_row methods c.args.text.now (r.not-max45, (r.not-mid610, (r.not-mid46, (r.not-mid810, (r.not-hmax45, (r.not-hmid610, (r.not-hmid46, tt)))))))) }
 
 pub returns : goal.returns

@@ -17,14 +17,14 @@ search-preserved-in-Some g c =
       stored s.days s.count c.in-Some.reference _ room ∙ ap (λ ys. take s.count s.days ++ ys) (sym found) ∙ s.invariant.2,
     )
 
-pub search-preserved-in-default : goal.search-preserved-in-default
-search-preserved-in-default g c =
+pub search-preserved-in_default : goal.search-preserved-in_default
+search-preserved-in_default g c =
     let m = g.R.LoadRecord.meaning c.args.self.now.loads in
     let k = c.args.self.now.method in
     let s = c.search in
     let cls = sym c.class.ensures.value ∙ c.if-eq.ensures in
     let same = ahead_none m k.class c.args.customer c.args.hour (k.n - s.count) s.left (s.left - 1) s.past (s.past - 1)
-    (omega arith) (omega arith) (class_same _ _ cls) (sym c.in-default.ensures.value) in
+    (omega arith) (omega arith) (class_same _ _ cls) (sym c.in_default.ensures.value) in
     (s.invariant.0, s.invariant.1, ap (λ ys. take s.count s.days ++ ys) (sym same) ∙ s.invariant.2)
 
 pub search-preserved : goal.search-preserved
