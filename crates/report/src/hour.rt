@@ -36,7 +36,7 @@ impl Settling {
         day: u32,
         class: DayClass,
     ) -> Result<Line, Refusal>
-        ensures value { result ≡ settled (meaning source.now) (meaning source.now) self.now.marks (record { kind = self.now.kind; customers = customers }) (record { month = self.now.month; class = class; day = day; hour = self.now.hour }) self.now.terms }
+        ensures value { result ≡ settled (S.meaning source.now) (S.meaning source.now) self.now.marks (record { kind = self.now.kind; customers = customers }) (record { month = self.now.month; class = class; day = day; hour = self.now.hour }) self.now.terms }
     {
         let portfolio = Portfolio {
             kind: self.kind,

@@ -21,7 +21,7 @@ pub fn usual_load<S: BaselineSource>(
     day: u32,
     hour: u32,
 ) -> Result<Usual, Cause>
-    ensures value { result ≡ usual_of (meaning source.now) customer day hour }
+    ensures value { result ≡ usual_of (S.meaning source.now) customer day hour }
 {
     let baseline = source.baseline(customer, day, hour)?;
     let Some(metered) = source.metered(customer, day, hour) else {

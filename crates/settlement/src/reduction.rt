@@ -19,7 +19,7 @@ fn takes_part(mark: u8) -> bool
 
 // By how much one customer's load lies below the baseline, in Wh; the baseline is asked first.
 fn cut_of<S: BaselineSource>(source: &S, customer: u32, slot: Slot) -> Result<i64, Cause>
-    ensures value { result ≡ cut (meaning source.now) customer slot.day slot.hour }
+    ensures value { result ≡ cut (S.meaning source.now) customer slot.day slot.hour }
     ensures bounded { IfOk result (λ z. Within 60000000 z × (customer < 16)) }
 {
     let baseline = source.baseline(customer, slot.day, slot.hour)?;
@@ -36,7 +36,7 @@ pub(crate) fn scheduled_reduction<S: BaselineSource>(
     customers: u32,
     slot: Slot,
 ) -> Result<i64, NoFigure>
-    ensures value { result ≡ reduction (meaning source.now) (takes_part marks.now) slot.day slot.hour customers }
+    ensures value { result ≡ reduction (S.meaning source.now) (takes_part marks.now) slot.day slot.hour customers }
     ensures bounded { IfOk result (λ z. Within 960000000 z) }
 {
     let mut sum: i64 = 0;
@@ -62,7 +62,7 @@ pub(crate) fn mandatory_reduction<S: BaselineSource>(
     customers: u32,
     slot: Slot,
 ) -> Result<i64, NoFigure>
-    ensures value { result ≡ reduction (meaning source.now) (λ _. true) slot.day slot.hour customers }
+    ensures value { result ≡ reduction (S.meaning source.now) (λ _. true) slot.day slot.hour customers }
     ensures bounded { IfOk result (λ z. Within 960000000 z) }
 {
     let mut sum: i64 = 0;

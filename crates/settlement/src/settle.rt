@@ -51,7 +51,7 @@ fn scheduled_of<S: BaselineSource>(
     slot: Slot,
     terms: Terms,
 ) -> Result<i64, NoFigure>
-    ensures value { result ≡ scheduled_reduction (meaning source.now) marks.now portfolio slot terms }
+    ensures value { result ≡ scheduled_reduction (S.meaning source.now) marks.now portfolio slot terms }
     ensures bounded { IfOk result (λ z. Within 960000000 z) }
 {
     if terms.plan == 0 {
@@ -67,7 +67,7 @@ fn mandatory_of<M: BaselineSource>(
     slot: Slot,
     terms: Terms,
 ) -> Result<i64, NoFigure>
-    ensures value { result ≡ mandatory_reduction (meaning source.now) portfolio slot terms }
+    ensures value { result ≡ mandatory_reduction (M.meaning source.now) portfolio slot terms }
     ensures bounded { IfOk result (λ z. Within 960000000 z) }
 {
     if terms.order == 0 {

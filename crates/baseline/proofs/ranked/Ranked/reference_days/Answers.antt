@@ -1,4 +1,6 @@
-use Rattle.std.proofs.Common.{◌≡◌, suc, ◌+◌, ◌-◌, ◌<◌, ◌≤◌, ◌++◌, length, take, sym, ap, ◌∙◌, inl, inr, arith, length-set}
+use Rattle.std.proofs.Common.{◌≡◌, suc, ◌+◌, ◌-◌, ◌<◌, ◌≤◌, ◌++◌, length, take, sym, ap, ◌∙◌, inl, inr, arith, rules, length-set}
+use denote.Enum.Bare.{same_true, same_false}
+use Rattle.load.specs.contracts.loads.DayClass.{the_type}
 use Rattle.baseline.proofs.Search.{class_same, class_other, ahead, ahead_other, ahead_none, ahead_some, ahead_found, ahead_spent, ahead_first, stored, all_found}
 use Rattle.baseline.proofs.ranked.Ranked.reference_days.Goals as goal
 use Rattle.baseline.proofs.ranked.Ranked.reference_days.Goals.{else-search-test, then-search-test+then-count-self, then-count-self-via-then-count-self, then-count-self-via-else-count-self+then-left-eq0}
@@ -9,7 +11,7 @@ search-preserved-in-Some g c =
     let k = c.args.self.now.method in
     let s = c.search in
     let room : s.count < length s.days = omega (arith, s.invariant.1) in
-    let cls = sym c.class.ensures.value ∙ c.if-eq.ensures in
+    let cls = sym c.class.ensures.value ∙ same_true the_type (search rules) _ _ (sym c.if-eq.ensures) in
     let found = ahead_some m k.class c.args.customer c.args.hour (k.n - s.count) (k.n - (s.count + 1)) s.left (s.left - 1) s.past (s.past - 1) c.in-Some.reference
     (omega arith) (omega arith) (omega arith) (class_same _ _ cls) (sym c.in-Some.ensures.value) in (
       omega arith,
@@ -22,7 +24,7 @@ search-preserved-in_default g c =
     let m = g.R.LoadRecord.meaning c.args.self.now.loads in
     let k = c.args.self.now.method in
     let s = c.search in
-    let cls = sym c.class.ensures.value ∙ c.if-eq.ensures in
+    let cls = sym c.class.ensures.value ∙ same_true the_type (search rules) _ _ (sym c.if-eq.ensures) in
     let same = ahead_none m k.class c.args.customer c.args.hour (k.n - s.count) s.left (s.left - 1) s.past (s.past - 1)
     (omega arith) (omega arith) (class_same _ _ cls) (sym c.in_default.ensures.value) in
     (s.invariant.0, s.invariant.1, ap (λ ys. take s.count s.days ++ ys) (sym same) ∙ s.invariant.2)
@@ -33,7 +35,7 @@ search-preserved g c =
     let k = c.args.self.now.method in
     let s = c.search in
     let same = ahead_other m k.class c.args.customer c.args.hour (k.n - s.count) s.left s.past (s.past - 1)
-    (omega arith) (class_other _ _ (λ e. c.if-eq.ensures (c.class.ensures.value ∙ e))) in
+    (omega arith) (class_other _ _ (λ e. same_false the_type _ _ (sym c.if-eq.ensures) (c.class.ensures.value ∙ e))) in
     (s.invariant.0, s.invariant.1, ap (λ ys. take s.count s.days ++ ys) (sym same) ∙ s.invariant.2)
 
 pub returns : goal.returns
