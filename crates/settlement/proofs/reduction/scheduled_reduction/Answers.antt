@@ -6,8 +6,8 @@ use Rattle.settlement.specs.Reduction.{takes_part}
 use Rattle.settlement.proofs.Reductions.{reduction_adds, reduction_skips, reduction_ends, reduction_rest}
 use Rattle.settlement.proofs.reduction.scheduled_reduction.Goals as goal
 
-pub loop-place-preserved-then-not-takes-part : goal.loop-place-preserved-then-not-takes-part
-loop-place-preserved-then-not-takes-part g c =
+pub loop-place-preserved-then-not-takes_part : goal.loop-place-preserved-then-not-takes_part
+loop-place-preserved-then-not-takes_part g c =
     let m = g.S.BaselineSource.meaning c.args.source.now in
     let out : takes_part c.args.marks.now c.loop-place.place ≡ false = grind (arith, nat_tests) in
     (omega arith, reduction_skips m (takes_part c.args.marks.now) _ _ _ out ∙ c.loop-place.invariant.1, (omega (arith, ints), omega (arith, ints)))
