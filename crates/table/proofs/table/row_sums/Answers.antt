@@ -6,11 +6,11 @@ pub loop-column-preserved : goal.loop-column-preserved
 loop-column-preserved g c =
     let n = c.loop-column.column in
     let s = c.loop-column.sums in
-    let t = c.with-line-sums.result in
+    let t = c.with_line-sums.result in
     let i = c.loop-column.invariant in
-    let e : c.line-at.result ≡ get_or c.args.lines.now (c.args.hour * c.args.width + n) g.L.Amounts.empty = c.line-at.ensures.value in
-    let w = c.with-line-sums.ensures in
-    let line : g.row.L.Denot = c.line-at.result in (
+    let e : c.line_at.result ≡ get_or c.args.lines.now (c.args.hour * c.args.width + n) g.L.Amounts.empty = c.line_at.ensures.value in
+    let w = c.with_line-sums.ensures in
+    let line : g.row.L.Denot = c.line_at.result in (
       total_turn n (λ k. g.L.Amounts.due (get_or c.args.lines.now (c.args.hour * c.args.width + k) g.L.Amounts.empty)) s.due (g.L.Amounts.due line) t.due i.0 (ap g.L.Amounts.due e) w.due,
       total_turn n (λ k. g.L.Amounts.back (get_or c.args.lines.now (c.args.hour * c.args.width + k) g.L.Amounts.empty)) s.back (g.L.Amounts.back line) t.back i.1 (ap g.L.Amounts.back e) w.back,
       within_turn n (2 ^ 63) s.due (g.L.Amounts.due line) t.due i.2 w.narrow.0 w.due,
