@@ -14,7 +14,7 @@ import sys
 
 DECLARED = re.compile(r"^\s*((?:abbrev |unfoldable |pub |data |record )*)([^\s(){}.,;:|]+)((?: \([^)]*\))*) : (.*)$")
 NAME = re.compile(r"(?<![\w'·-])(\.?)([^\W\d_][\w']*(?:-[\w']+)+)(?![\w'-])")
-IMPORT = re.compile(r"^\s*(?:ghost )?(?:pub )?use Rattle\.(\w+)\.(specs|proofs)\.([^{;]*?)\.?\{([^}]*)\}", re.M)
+IMPORT = re.compile(r"^\s*(?:ghost )?(?:pub )?use Rattle\.(\w+)\.(specs|proofs)\.([^{;\n]*?)\.?\{([^}]*)\}", re.M)
 
 
 def respelt(name):

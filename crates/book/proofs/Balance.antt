@@ -8,7 +8,7 @@ use Rattle.won.specs.Sums.{total_to}
 use Rattle.won.proofs.Sums.{total_same}
 use Rattle.share.specs.Shares.{share}
 use Rattle.share.specs.Laws as shared
-use Rattle.share.proofs.Sharing.{share-near, shares-below-add-up}
+use Rattle.share.proofs.Sharing.{share_near, shares_below_add_up}
 use Rattle.table.specs.Lines.{no_line, no_charge, paid_of, fined_of}
 use Rattle.table.proofs.Filling.{length_filled, read_filled}
 use Rattle.table.proofs.Rows.{row_within}
@@ -159,7 +159,7 @@ some_energies (Some e) n = (e, refl)
 -- a share is near by the total told
 near_total : (a : ℤ) (e : Energies) (k : ℕ) (n : ℕ) → SoundEnergies n e → WithinAWon (share a e.purchases k) a e k
 near_total a e k n ok =
-    let near = share-near a e.purchases k (subst (λ t. 0 < t) (sym ok.all) ok.some) in
+    let near = share_near a e.purchases k (subst (λ t. 0 < t) (sym ok.all) ok.some) in
     let P : ℕ → Type 0 = λ t. ((share a e.purchases k *ℤ pos t) <ℤ (a *ℤ pos (purchase e k) +ℤ pos t)) × ((a *ℤ pos (purchase e k)) <ℤ (share a e.purchases k *ℤ pos t +ℤ pos t)) in
     let told = subst P ok.all near in
     record { above = told.0; below = told.1 }
@@ -193,7 +193,7 @@ module _ (b : State) (cs : List Call) (k : Kept b cs) where
       }
 
   add_up : (a : ℤ) (e : Energies) → SoundEnergies b.register.buyers e → total_to b.register.buyers (share a e.purchases) ≡ a
-  add_up a e ok = shares-below-add-up a e.purchases b.register.buyers (subst (λ t. 0 < t) (sym ok.all) ok.some) ok.past
+  add_up a e ok = shares_below_add_up a e.purchases b.register.buyers (subst (λ t. 0 < t) (sym ok.all) ok.some) ok.past
 
   charges_are : (h : ℕ) → last_allots h cs ≡ true → charged_in b h ≡ payments b.register cs h
   charges_are h a = let m = allotment h a in total_same b.register.buyers _ _ m.charge ∙ add_up _ m.energies m.right

@@ -80,8 +80,8 @@ fn sound_resources(resources: &[Registration]) -> bool
 impl<'a> Opening<'a> {
     // What the book keeps of the opening.
     fn register(self) -> Register
-        requires classes_len_bound { length self.classes.now ≤ 31 }
-        requires resources_len_bound { length self.resources.now ≤ 16 }
+        requires classes_few { length self.classes.now ≤ 31 }
+        requires resources_few { length self.resources.now ≤ 16 }
         ensures value { result ≡ register_of (told_by self.entry) }
     {
         let mut register = Register::blank();
@@ -157,10 +157,10 @@ impl Book {
 
     // Makes this a book just opened.
     fn begin(&mut self, opening: Opening, lines: &mut [ResourceLine], charges: &mut [BuyerLine])
-        requires classes_len_bound { length opening.classes.now ≤ 31 }
-        requires resources_len_bound { length opening.resources.now ≤ 16 }
-        requires buyers_bound { opening.buyers ≤ 8 }
-        requires first_day_bound { opening.first_day ≤ 64 }
+        requires classes_few { length opening.classes.now ≤ 31 }
+        requires resources_few { length opening.resources.now ≤ 16 }
+        requires buyers_few { opening.buyers ≤ 8 }
+        requires first_day_low { opening.first_day ≤ 64 }
         ensures value { seen self.new lines.new charges.new ≡ opened (told_by opening.entry) (seen self.old lines.old charges.old) }
     {
         let register = opening.register();

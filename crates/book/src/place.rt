@@ -12,10 +12,10 @@ use table::lines::{BuyerLine, ResourceLine};
 
 // The number of an hour of the month.
 fn place_of(day: u32, hour: u32) -> u32
-    requires day_bound { day ≤ 31 }
-    requires le_day { 1 ≤ day }
-    requires hour_bound { hour ≤ 24 }
-    requires le_hour { 1 ≤ hour }
+    requires day_most { day ≤ 31 }
+    requires day_least { 1 ≤ day }
+    requires hour_most { hour ≤ 24 }
+    requires hour_least { 1 ≤ hour }
     ensures value { result ≡ place day hour }
 {
     (day - 1) * 24 + (hour - 1)

@@ -30,8 +30,8 @@ const NOTHING: Reconciliation = Reconciliation {
 impl Reconciliation {
     // These sums with others.
     fn plus(self, other: Reconciliation) -> Reconciliation
-        requires all_within { AllWithin (2 ^ 100) self }
-        requires all_within_2 { AllWithin (2 ^ 100) other }
+        requires self_within { AllWithin (2 ^ 100) self }
+        requires other_within { AllWithin (2 ^ 100) other }
         ensures value { result ≡ added self other }
     {
         Reconciliation {

@@ -62,8 +62,8 @@ impl Book {
         scheduled: &S,
         mandatory: &M,
     ) -> Result<Line, Refusal>
-        requires hour_value { in_month self.now.register day hour ≡ true }
-        requires resource_lt_enrolled { resource < self.now.register.enrolled }
+        requires hour_named { in_month self.now.register day hour ≡ true }
+        requires resource_known { resource < self.now.register.enrolled }
         ensures value { result ≡ reckon self.now.register (record { resource = resource; day = day; hour = hour; terms = terms; marks = marks.now; scheduled = S.BaselineSource.meaning scheduled.now; mandatory = M.BaselineSource.meaning mandatory.now }) }
     {
         let portfolio = self.register.resources[resource as usize].portfolio();

@@ -1,7 +1,7 @@
 // The figures of a line: loads in Wh, prices in hundredths of a won per kWh, money in won.
 ghost use Rattle.std.specs.Prelude.{◌≡◌, ◌≤◌};
 ghost use Rattle.settlement.specs.Bounds.{Limited, Within};
-ghost use Rattle.settlement.specs.Figures.{at_least_nought, dlr_of, fined_of, line_of, order_pay_of, plan_pay_of, slr_of, worth as its-worth};
+ghost use Rattle.settlement.specs.Figures.{at_least_nought, dlr_of, fined_of, line_of, order_pay_of, plan_pay_of, slr_of, worth as its_worth};
 
 use crate::terms::{Line, Terms};
 
@@ -21,7 +21,7 @@ fn floor(load: i64) -> u64
 // What a load is worth at a price, the fraction dropped.
 fn worth(load: u64, price: u32) -> u32
     requires { (load ≤ 960000000) × (price ≤ 200000) }
-    ensures value { result ≡ its-worth load price }
+    ensures value { result ≡ its_worth load price }
     ensures bounded { result ≤ 1920000000 }
 {
     (load * u64::from(price) / PRICE_UNIT) as u32

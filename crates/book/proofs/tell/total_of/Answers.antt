@@ -3,7 +3,7 @@ use Rattle.book.proofs.Purchases.{sum_to, sum_of, sum_more}
 use Rattle.book.proofs.tell.total_of.Goals as goal
 
 pub loop-k-preserved : goal.loop-k-preserved
-loop-k-preserved c = (ap (λ s. s + get_or c.args.others.now c.loop-k.k 0) c.loop-k.invariant.0 ∙ sym (sum_more c.loop-k.k (λ j. get_or c.args.others.now j 0)), omega (arith, c.loop-k.invariant.1, c.type-inv.others c.loop-k.k))
+loop-k-preserved c = (ap (λ s. s + get_or c.args.others.now c.loop-k.k 0) c.loop-k.invariant.0 ∙ sym (sum_more c.loop-k.k (λ j. get_or c.args.others.now j 0)), omega (arith, c.loop-k.invariant.1, c.type_inv.others c.loop-k.k))
 
 pub returns : goal.returns
 returns c =

@@ -13,11 +13,11 @@ pub returns : goal.returns
 returns c =
     let z = c.args.self.now in
     let b : State = seen z c.args.lines.now c.args.charges.now in
-    let bound = c.amounts-in-sums.ensures.bounded in
-    let paid = narrowed c.amounts-in-sums.result.due bound.0 ∙ c.amounts-in-sums.ensures.due in
-    let fined = narrowed c.amounts-in-sums.result.back bound.1 ∙ c.amounts-in-sums.ensures.back in
-    let row = c.charge-row-row.ensures.value ∙ ap₂ (λ (x y : ℤ). filled (replicate 8 no_charge) 0 8 (charges_of x y c.args.energies.purchases)) paid fined in
+    let bound = c.amounts_in-sums.ensures.bounded in
+    let paid = narrowed c.amounts_in-sums.result.due bound.0 ∙ c.amounts_in-sums.ensures.due in
+    let fined = narrowed c.amounts_in-sums.result.back bound.1 ∙ c.amounts_in-sums.ensures.back in
+    let row = c.charge_row-row.ensures.value ∙ ap₂ (λ (x y : ℤ). filled (replicate 8 no_charge) 0 8 (charges_of x y c.args.energies.purchases)) paid fined in
     record {
-      value = c.put-row.ensures.value
-          ∙ filled_from_row c.args.charges.now c.charge-row-row.result (c.args.h * z.register.buyers) z.register.buyers (charges_of (paid_in b c.args.h) (fined_in b c.args.h) c.args.energies.purchases) z.buyers_few row;
+      value = c.put_row.ensures.value
+          ∙ filled_from_row c.args.charges.now c.charge_row-row.result (c.args.h * z.register.buyers) z.register.buyers (charges_of (paid_in b c.args.h) (fined_in b c.args.h) c.args.energies.purchases) z.buyers_few row;
     }

@@ -18,7 +18,7 @@ returns-in-Ok-step c =
     let none = step_taken (finish slip) b Finish os p refl c.in-Ok.h h c.in-Ok-step.energies e in
     record {
       answer = sym (ap (λ o. back_or o c.args.slip) none);
-      book = charged (finish slip) b Finish os p refl c.in-Ok.h h (seen c.step.new.self c.args.lines.now c.args.charges.now) c.charge-hour.new.charges c.in-Ok-step.energies refl e (c.in-Ok-step.ensures.book c.args.lines.now c.args.charges.now) c.charge-hour.ensures.value
+      book = charged (finish slip) b Finish os p refl c.in-Ok.h h (seen c.step.new.self c.args.lines.now c.args.charges.now) c.charge_hour.new.charges c.in-Ok-step.energies refl e (c.in-Ok-step.ensures.book c.args.lines.now c.args.charges.now) c.charge_hour.ensures.value
           ∙ sym (ap (λ o. state_by o (finish slip) b) none);
     }
 

@@ -9,20 +9,20 @@ use Rattle.book.specs.Seen.{seen}
 use Rattle.book.proofs.Decided.{passed_on, none_made, then_refused, then_granted}
 use Rattle.book.proofs.book.Book.line_place.Goals as goal
 
-pub returns-in-err-h : goal.returns-in-err-h
-returns-in-err-h c =
+pub returns-in_err-h : goal.returns-in_err-h
+returns-in_err-h c =
     let b : State = seen c.args.self.now c.args.lines.now c.args.charges.now in
-    let p = err_from_is_err_and c.from-residual.result c.from-residual.ensures.1 in
+    let p = err_from_is_err_and c.from_residual.result c.from_residual.ensures.1 in
     record {
-      value = passed_on c.from-residual.result p.0 c.in-err-h.field-0.0 (resource_tests b c.args.resource c.args.day c.args.hour) (refused_if (is_allotted (named b c.args.day c.args.hour)) HourAllotted ∷ []) (place c.args.day c.args.hour) p.1 p.2 c.in-err-h.ensures.value;
-      bounded = none_made c.from-residual.result p.0 (λ h. h < hours_of b.register) p.1;
+      value = passed_on c.from_residual.result p.0 c.in_err-h.field-0.0 (resource_tests b c.args.resource c.args.day c.args.hour) (refused_if (is_allotted (named b c.args.day c.args.hour)) HourAllotted ∷ []) (place c.args.day c.args.hour) p.1 p.2 c.in_err-h.ensures.value;
+      bounded = none_made c.from_residual.result p.0 (λ h. h < hours_of b.register) p.1;
     }
 
-pub returns-then-is-allotted : goal.returns-then-is-allotted
-returns-then-is-allotted c =
+pub returns-then-is_allotted : goal.returns-then-is_allotted
+returns-then-is_allotted c =
     let b : State = seen c.args.self.now c.args.lines.now c.args.charges.now in
     record {
-      value = then_refused (resource_tests b c.args.resource c.args.day c.args.hour) (λ h. is_allotted (hour_at b h)) HourAllotted (place c.args.day c.args.hour) c.in-ok-h.h c.in-ok-h.ensures.value c.if-is-allotted.ensures.value;
+      value = then_refused (resource_tests b c.args.resource c.args.day c.args.hour) (λ h. is_allotted (hour_at b h)) HourAllotted (place c.args.day c.args.hour) c.in_ok-h.h c.in_ok-h.ensures.value c.if-is_allotted.ensures.value;
       bounded = tt;
     }
 
@@ -30,6 +30,6 @@ pub returns : goal.returns
 returns c =
     let b : State = seen c.args.self.now c.args.lines.now c.args.charges.now in
     record {
-      value = then_granted (resource_tests b c.args.resource c.args.day c.args.hour) (λ h. is_allotted (hour_at b h)) HourAllotted (place c.args.day c.args.hour) c.in-ok-h.h c.in-ok-h.ensures.value c.if-is-allotted.ensures.value;
-      bounded = c.in-ok-h.ensures.bounded;
+      value = then_granted (resource_tests b c.args.resource c.args.day c.args.hour) (λ h. is_allotted (hour_at b h)) HourAllotted (place c.args.day c.args.hour) c.in_ok-h.h c.in_ok-h.ensures.value c.if-is_allotted.ensures.value;
+      bounded = c.in_ok-h.ensures.bounded;
     }

@@ -11,7 +11,7 @@ begin-requires c =
     let b : State = seen c.args.self.now c.args.lines.now c.args.charges.now in
     let o : Opening = told_by c.args.opening in
     let ok : Openable o b = openable o b (let_pass (opening_refusal o b) tt tt c.in-Ok.ensures.value).0 in
-    (ok.days_few, ok.resources_few, ok.buyers_few, ok.first_day_low)
+    record { classes_few = ok.days_few; resources_few = ok.resources_few; buyers_few = ok.buyers_few; first_day_low = ok.first_day_low }
 
 pub returns-in-Ok : goal.returns-in-Ok
 returns-in-Ok c =

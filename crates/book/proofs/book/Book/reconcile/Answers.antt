@@ -20,6 +20,6 @@ pub returns : goal.returns
 returns c =
     let b : State = seen c.args.self.now c.args.lines.now c.args.charges.now in
     let long : short_for b.register b.lines b.charges ≡ false = sym c.if-short.ensures.value in
-    let answer : ◌≡◌ {A = Result Reconciliation Refusal} (Ok c.month-sums.result) (reconciled b) =
-    ap Ok c.month-sums.ensures.value ∙ sym (cond-false (short_for b.register b.lines b.charges) (Err ShortLists) (Ok (sums_to b (hours_of b.register))) long) in
+    let answer : ◌≡◌ {A = Result Reconciliation Refusal} (Ok c.month_sums.result) (reconciled b) =
+    ap Ok c.month_sums.ensures.value ∙ sym (cond-false (short_for b.register b.lines b.charges) (Err ShortLists) (Ok (sums_to b (hours_of b.register))) long) in
     record { answer = answer; law = subst (Lawful b) (sym answer) (lawful b) }

@@ -23,9 +23,9 @@ returns-in-Ok-step c =
     let none = step_taken call b Reopen os p refl c.in-Ok.h h _ e in
     let number : Slip = fresh b.register.number c.args.day c.args.hour in
     let slip : c.new.result ≡ number = c.new.ensures.value ∙ ap (λ (y : State). fresh y.register.number c.args.day c.args.hour) after in
-    let last : State = seen c.step.new.self c.args.lines.now c.clear-row.new.charges in
+    let last : State = seen c.step.new.self c.args.lines.now c.clear_row.new.charges in
     let left_so : last ≡ reopened b p =
-    written call b Reopen os p refl c.in-Ok.h h (λ _ _. no_charge) (seen c.step.new.self c.args.lines.now c.args.charges.now) c.clear-row.new.charges _ e after c.clear-row.ensures.value
+    written call b Reopen os p refl c.in-Ok.h h (λ _ _. no_charge) (seen c.step.new.self c.args.lines.now c.args.charges.now) c.clear_row.new.charges _ e after c.clear_row.ensures.value
     ∙ ap (reopened b) (let_pass _ _ c.in-Ok.h h).1 in
     record {
       answer = ap (λ x. Ok x) slip ∙ sym (ap (λ o. granted_or o number) none);

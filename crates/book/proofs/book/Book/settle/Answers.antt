@@ -13,7 +13,7 @@ returns-in-Ok-reckon g c =
     let k = c.in-Ok-reckon.ensures.value in
     record {
       answer = sym (ap (λ o. granted_or o tt) (settle_reckoned b q c.in-Ok.h c.in-Ok.ensures.value c.in-Ok-reckon.line k));
-      book = settled_so b q c.in-Ok.h c.in-Ok.ensures.value c.in-Ok-reckon.line c.put-line.new.lines k c.put-line.ensures.value;
+      book = settled_so b q c.in-Ok.h c.in-Ok.ensures.value c.in-Ok-reckon.line c.put_line.new.lines k c.put_line.ensures.value;
     }
 
 pub returns-in-Err-reckon : goal.returns-in-Err-reckon

@@ -13,7 +13,7 @@ returns-in-Ok-energies c =
     let e = c.in-Ok-energies.ensures.value in
     record {
       answer = sym (ap (λ o. granted_or o tt) (energies_taken b c.args.day c.args.hour c.args.total c.args.others.now c.in-Ok.h h c.in-Ok-energies.told e));
-      book = told_so b c.args.day c.args.hour c.args.total c.args.others.now c.in-Ok.h h _ c.in-Ok-energies.told e (c.tell-hour.ensures.book c.args.lines.now c.args.charges.now);
+      book = told_so b c.args.day c.args.hour c.args.total c.args.others.now c.in-Ok.h h _ c.in-Ok-energies.told e (c.tell_hour.ensures.book c.args.lines.now c.args.charges.now);
     }
 
 pub returns-in-Err-energies : goal.returns-in-Err-energies

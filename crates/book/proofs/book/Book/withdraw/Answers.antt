@@ -18,7 +18,7 @@ returns-in-Settled c =
     let e = withdraw_standing b c.args.resource c.args.day c.args.hour c.in-Ok.h c.in-Ok.ensures.value _ c.in-Settled.ensures.value in
     record {
       answer = sym (ap (λ o. granted_or o tt) e);
-      book = withdrawn b c.args.resource c.args.day c.args.hour c.in-Ok.h c.in-Ok.ensures.value c.put-line.new.lines e c.put-line.ensures.value;
+      book = withdrawn b c.args.resource c.args.day c.args.hour c.in-Ok.h c.in-Ok.ensures.value c.put_line.new.lines e c.put_line.ensures.value;
     }
 
 pub returns-in-Err : goal.returns-in-Err
