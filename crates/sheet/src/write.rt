@@ -23,8 +23,8 @@ fn is_digit(n: u128) -> bool
 
 // Puts a text.
 fn write_bytes<S: Sink>(sink: &mut S, text: &[u8])
-    requires { length text.now ≤ length (tape sink.old).ahead }
-    ensures value { tape sink.new ≡ after (tape sink.old) text.now }
+    requires { length text.now ≤ length (S.tape sink.old).ahead }
+    ensures value { S.tape sink.new ≡ after (S.tape sink.old) text.now }
 {
     for byte in text {
         sink.put(*byte);
@@ -33,8 +33,8 @@ fn write_bytes<S: Sink>(sink: &mut S, text: &[u8])
 
 // Puts the digits of a number, the highest first.
 fn write_digits<S: Sink>(sink: &mut S, n: u128)
-    requires { length (decimal n) ≤ length (tape sink.old).ahead }
-    ensures value { tape sink.new ≡ after (tape sink.old) (decimal n) }
+    requires { length (decimal n) ≤ length (S.tape sink.old).ahead }
+    ensures value { S.tape sink.new ≡ after (S.tape sink.old) (decimal n) }
 {
     if is_digit(n) {
         sink.put(b'0' + n as u8);
@@ -46,8 +46,8 @@ fn write_digits<S: Sink>(sink: &mut S, n: u128)
 
 // Puts a number, with a minus sign if it is below nought.
 fn write_number<S: Sink>(sink: &mut S, n: i128)
-    requires { length (signed n) ≤ length (tape sink.old).ahead }
-    ensures value { tape sink.new ≡ after (tape sink.old) (signed n) }
+    requires { length (signed n) ≤ length (S.tape sink.old).ahead }
+    ensures value { S.tape sink.new ≡ after (S.tape sink.old) (signed n) }
 {
     if n < 0 {
         sink.put(b'-');
@@ -59,16 +59,16 @@ fn write_number<S: Sink>(sink: &mut S, n: i128)
 
 // Ends a line.
 fn end_line<S: Sink>(sink: &mut S)
-    requires { 0 < length (tape sink.old).ahead }
-    ensures value { tape sink.new ≡ after (tape sink.old) (10 ∷ []) }
+    requires { 0 < length (S.tape sink.old).ahead }
+    ensures value { S.tape sink.new ≡ after (S.tape sink.old) (10 ∷ []) }
 {
     sink.put(LINE_END);
 }
 
 // Puts an entry's line.
 fn write_line<S: Sink>(sink: &mut S, entry: Entry)
-    requires { length (line_text entry) ≤ length (tape sink.old).ahead }
-    ensures value { tape sink.new ≡ after (tape sink.old) (line_text entry) }
+    requires { length (line_text entry) ≤ length (S.tape sink.old).ahead }
+    ensures value { S.tape sink.new ≡ after (S.tape sink.old) (line_text entry) }
 {
     write_bytes(sink, entry.key.text());
     sink.put(b'=');
@@ -78,8 +78,8 @@ fn write_line<S: Sink>(sink: &mut S, entry: Entry)
 
 // Puts the lines of entries, one after another.
 pub(crate) fn write_lines<S: Sink>(sink: &mut S, entries: &[Entry])
-    requires { length (text_of entries.now) ≤ length (tape sink.old).ahead }
-    ensures value { tape sink.new ≡ after (tape sink.old) (text_of entries.now) }
+    requires { length (text_of entries.now) ≤ length (S.tape sink.old).ahead }
+    ensures value { S.tape sink.new ≡ after (S.tape sink.old) (text_of entries.now) }
 {
     for entry in entries {
         write_line(sink, *entry);

@@ -5,11 +5,11 @@ use Rattle.report.specs.Lines.{purchased}
 use Rattle.report.proofs.Hours.{front, none_left, some_left, purchases_goes}
 use Rattle.report.proofs.lines.purchases_of.Goals as goal
 
-pub returns-in-default-default-of : goal.returns-in-default-default-of
-returns-in-default-default-of c =
+pub returns-in_default-rest_of : goal.returns-in_default-rest_of
+returns-in_default-rest_of c =
     let ns : List ℕ = c.args.numbers.now in
     let others : List ℕ = take (length ns - 1) (drop 1 ns) in
-    let beyond : leb (sum others) (get_or ns 0 0) ≡ false = none_left _ _ c.in-default-default-of.ensures.value in
+    let beyond : leb (sum others) (get_or ns 0 0) ≡ false = none_left _ _ c.in_default-rest_of.ensures.value in
     record { value = sym (purchases_goes ns (get_or ns 0 0) others false (front ns (omega arith)) (omega arith) (omega arith) (omega arith) beyond) }
 
 pub returns : goal.returns

@@ -6,8 +6,8 @@ use Rattle.sheet.proofs.gather.add_buyers.Goals as goal
 
 pub loop-buyer-preserved : goal.loop-buyer-preserved
 loop-buyer-preserved c =
-    let size = ap length c.buyer-block.ensures.value in (
+    let size = ap length c.buyer_block.ensures.value in (
       omega (arith, c.add-next.ensures.count),
       block_more (buyer_entries (seen c.args.book.now [] c.args.charges.now)) c.loop-buyer.buyer (take c.args.count c.args.list.now) (take c.loop-buyer.next c.loop-buyer.list) _ _
-          c.loop-buyer.invariant.1 c.buyer-block.ensures.value c.add-next.ensures.list,
+          c.loop-buyer.invariant.1 c.buyer_block.ensures.value c.add-next.ensures.list,
     )

@@ -13,12 +13,12 @@ returns c =
     let b = c.args.book.now in
     let k = c.args.buyer in
     let kept = c.register-register.ensures.value in
-    let sums = c.column-sums-sums.result in
+    let sums = c.column_sums-sums.result in
     let due : SFits w128 sums.due = search rules in
     let back : SFits w128 sums.back = search rules in
     record {
       value = three _ _ _ _ _ _
           c.numbered.ensures.value
-          (ap (entry Charged) (to_z-of_z w128 sums.due due ∙ c.column-sums-sums.ensures.due ∙ ap (λ (s : Register). over_allotted b.register b.hours (λ h. (get_or c.args.charges.now (h * s.buyers + k) no_charge).charge)) kept))
-          (ap (entry Refunded) (to_z-of_z w128 sums.back back ∙ c.column-sums-sums.ensures.back ∙ ap (λ (s : Register). over_allotted b.register b.hours (λ h. (get_or c.args.charges.now (h * s.buyers + k) no_charge).refund)) kept));
+          (ap (entry Charged) (to_z-of_z w128 sums.due due ∙ c.column_sums-sums.ensures.due ∙ ap (λ (s : Register). over_allotted b.register b.hours (λ h. (get_or c.args.charges.now (h * s.buyers + k) no_charge).charge)) kept))
+          (ap (entry Refunded) (to_z-of_z w128 sums.back back ∙ c.column_sums-sums.ensures.back ∙ ap (λ (s : Register). over_allotted b.register b.hours (λ h. (get_or c.args.charges.now (h * s.buyers + k) no_charge).refund)) kept));
     }

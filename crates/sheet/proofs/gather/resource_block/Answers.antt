@@ -14,13 +14,13 @@ returns c =
     let b = c.args.book.now in
     let r = c.args.resource in
     let kept = c.register-register.ensures.value in
-    let sums = c.column-sums-sums.result in
+    let sums = c.column_sums-sums.result in
     let due : SFits w128 sums.due = search rules in
     let back : SFits w128 sums.back = search rules in
     record {
       value = four _ _ _ _ _ _ _ _
           c.numbered.ensures.value
           (c.numbered-2.ensures.value ∙ ap (λ (s : Register). entry Aggregator (pos (get_or s.resources r no_resource).aggregator)) kept)
-          (ap (entry Paid) (to_z-of_z w128 sums.due due ∙ c.column-sums-sums.ensures.due ∙ ap (λ (s : Register). over_allotted b.register b.hours (λ h. paid_of (get_or c.args.lines.now (h * s.enrolled + r) no_line))) kept))
-          (ap (entry Fined) (to_z-of_z w128 sums.back back ∙ c.column-sums-sums.ensures.back ∙ ap (λ (s : Register). over_allotted b.register b.hours (λ h. fined_of (get_or c.args.lines.now (h * s.enrolled + r) no_line))) kept));
+          (ap (entry Paid) (to_z-of_z w128 sums.due due ∙ c.column_sums-sums.ensures.due ∙ ap (λ (s : Register). over_allotted b.register b.hours (λ h. paid_of (get_or c.args.lines.now (h * s.enrolled + r) no_line))) kept))
+          (ap (entry Fined) (to_z-of_z w128 sums.back back ∙ c.column_sums-sums.ensures.back ∙ ap (λ (s : Register). over_allotted b.register b.hours (λ h. fined_of (get_or c.args.lines.now (h * s.enrolled + r) no_line))) kept));
     }

@@ -9,10 +9,10 @@ use Rattle.sheet.proofs.Answered.{lists_refused, buffer_refuses, answer_within}
 use Rattle.sheet.proofs.Columns.{balanced_sheet}
 use Rattle.sheet.proofs.sheet.write_sheet.Goals as goal
 
-pub returns-then-lacks-places : goal.returns-then-lacks-places
-returns-then-lacks-places c =
+pub returns-then-lacks_places : goal.returns-then-lacks_places
+returns-then-lacks_places c =
     let b : State = seen c.args.book.now c.args.lines.now c.args.charges.now in
-    let refused = lists_refused b c.args.buffer.now c.if-lacks-places.ensures.value in
+    let refused = lists_refused b c.args.buffer.now c.if-lacks_places.ensures.value in
     record {
       answer = ap (λ o. granted_or o (length (sheet_text b))) refused;
       buffer = ap (λ o. written_by o (sheet_text b) c.args.buffer.now) refused;
@@ -25,15 +25,15 @@ returns c =
     let b : State = seen c.args.book.now c.args.lines.now c.args.charges.now in
     let buffer = c.args.buffer.now in
     let gathered = c.gather-count.ensures.list in
-    let refused = buffer_refuses b buffer c.if-lacks-places.ensures.value in
+    let refused = buffer_refuses b buffer c.if-lacks_places.ensures.value in
     let answered =
-    c.write-entries.ensures.answer
+    c.write_entries.ensures.answer
     ∙ ap (λ es. granted_or (short_buffer (text_of es) buffer) (length (text_of es))) gathered
     ∙ ap (λ o. granted_or o (length (sheet_text b))) refused
     in
     record {
       answer = answered;
-      buffer = c.write-entries.ensures.buffer
+      buffer = c.write_entries.ensures.buffer
           ∙ ap (λ es. written_by (short_buffer (text_of es) buffer) (text_of es) buffer) gathered
           ∙ ap (λ o. written_by o (sheet_text b) buffer) refused;
       bounded = let P : Result ℕ Refusal → Type 0 = λ r. IfOk r (λ n. n ≤ length buffer) in subst P (sym answered) (answer_within b buffer);

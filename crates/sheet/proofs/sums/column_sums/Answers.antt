@@ -8,9 +8,9 @@ pub loop-hour-preserved : goal.loop-hour-preserved
 loop-hour-preserved g c =
     let n = c.loop-hour.hour in
     let s = c.loop-hour.sums in
-    let t = c.with-hour-sums.result in
+    let t = c.with_hour-sums.result in
     let i = c.loop-hour.invariant in
-    let w = c.with-hour-sums.ensures in
+    let w = c.with_hour-sums.ensures in
     let due : ℕ → ℤ = λ h. if_allotted c.args.book.now.hours h (g.L.Amounts.due (get_or c.args.lines.now (h * c.args.width + c.args.column) g.L.Amounts.empty)) in
     let back : ℕ → ℤ = λ h. if_allotted c.args.book.now.hours h (g.L.Amounts.back (get_or c.args.lines.now (h * c.args.width + c.args.column) g.L.Amounts.empty)) in (
       total_turn n due s.due (due n) t.due i.0 refl w.due,

@@ -6,8 +6,8 @@ use Rattle.sheet.proofs.Tapes.{after_more, ahead_length}
 use Rattle.sheet.proofs.Lines.{lines_more, lines_fit}
 use Rattle.sheet.proofs.write.write_lines.Goals as goal
 
-pub write-line-requires : goal.write-line-requires
-write-line-requires g c =
+pub write_line-requires : goal.write_line-requires
+write_line-requires g c =
     let tape = g.S.Sink.tape in
     omega (
       arith,
@@ -22,7 +22,7 @@ loop-entry-preserved g c =
     let es = c.args.entries.now in
     let i = c.loop-entry.entry-index in
     rw (lines_more es i c.loop-entry-test.true)
-    (after_more (tape c.args.sink.now) (tape c.loop-entry.sink) (tape c.write-line.new.sink) (text_of (take i es)) _ c.loop-entry.invariant c.write-line.ensures.value)
+    (after_more (tape c.args.sink.now) (tape c.loop-entry.sink) (tape c.write_line.new.sink) (text_of (take i es)) _ c.loop-entry.invariant c.write_line.ensures.value)
 
 pub returns : goal.returns
 returns g c = record {

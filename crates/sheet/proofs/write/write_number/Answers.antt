@@ -13,7 +13,7 @@ returns-then-n-lt0 g c =
     let start = tape c.args.sink.now in
     let n = c.args.n in
     record {
-      value = after_more start (tape c.put.new.self) (tape c.write-digits.new.sink) (45 ∷ []) (decimal c.unsigned-abs.result) c.put.ensures.value c.write-digits.ensures.value
-          ∙ ap (after start) (below_nought (to_z w128 (of_z w128 n)) c.unsigned-abs.result c.if-n-lt0.true c.unsigned-abs.ensures.value)
+      value = after_more start (tape c.put.new.self) (tape c.write_digits.new.sink) (45 ∷ []) (decimal c.unsigned_abs.result) c.put.ensures.value c.write_digits.ensures.value
+          ∙ ap (after start) (below_nought (to_z w128 (of_z w128 n)) c.unsigned_abs.result c.if-n-lt0.true c.unsigned_abs.ensures.value)
           ∙ ap (λ z. after start (signed z)) (to_z-of_z w128 n c.ranges.n);
     }

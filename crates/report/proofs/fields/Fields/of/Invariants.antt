@@ -8,7 +8,7 @@ abbrev pub invariant-loop-rest : goal.invariant-loop-rest
 invariant-loop-rest l =
     (l.count ≤ 100)
     × (length l.numbers ≡ 100)
-    × (fold with_field (Ok (take l.count l.numbers)) (fields_in (option_map (λ x. x.now) l.rest)) ≡ numbers_in (fields_in (option_map (λ x. x.now) l.behind-word)))
+    × (fold with_field (Ok (take l.count l.numbers)) (fields_in (option_map (λ x. x.now) l.rest)) ≡ numbers_in (fields_in (option_map (λ x. x.now) l.behind_word)))
 
 -- how many fields are to come
 abbrev pub decreases-loop-rest : goal.decreases-loop-rest

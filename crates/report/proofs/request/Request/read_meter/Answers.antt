@@ -11,9 +11,9 @@ pub returns : goal.returns
 returns c =
     let v = c.args.self.now.numbers in
     let ns : List ℕ = c.args.numbers.now in
-    let place : ℕ = c.in-ok-place.place in
+    let place : ℕ = c.in_ok-place.place in
     let values : List ℕ = take (length ns - 3) (drop 3 ns) in
-    let table : List ℕ = c.write-from.new.table in
-    let is : table ≡ written place values (vec_items v) = c.write-from.ensures.value ∙ ap (written place values) c.deref-mut.ensures.value in
-    let long : length table ≡ vec_len v = ap length c.write-from.ensures.value ∙ length_written place values c.deref-mut.result.now ∙ c.deref-mut.ensures.len in
-    record { value = meter_goes c.args.meter ns (asked c.args.self.now) place (vec_items (with_items v table)) (sym c.is-mixed.ensures.value ∙ c.if-is-mixed.false) (sym c.in-ok-place.ensures.value) (with_items_is v table long ∙ is) }
+    let table : List ℕ = c.write_from.new.table in
+    let is : table ≡ written place values (vec_items v) = c.write_from.ensures.value ∙ ap (written place values) c.deref_mut.ensures.value in
+    let long : length table ≡ vec_len v = ap length c.write_from.ensures.value ∙ length_written place values c.deref_mut.result.now ∙ c.deref_mut.ensures.len in
+    record { value = meter_goes c.args.meter ns (asked c.args.self.now) place (vec_items (with_items v table)) (sym c.is_mixed.ensures.value ∙ c.if-is_mixed.false) (sym c.in_ok-place.ensures.value) (with_items_is v table long ∙ is) }
