@@ -13,10 +13,10 @@ unreachable-requires g c =
     let reopened : State = seen c.reopen.new.self c.args.lines.now c.reopen.new.charges in
     let told : State = seen c.tell-told.new.self c.args.lines.now c.reopen.new.charges in
     let settled : State = seen c.tell-told.new.self c.settle-settled.new.lines c.reopen.new.charges in
-    let slip : Slip = named_by c.in-ok-slip.slip in
+    let slip : Slip = named_by c.in_ok-slip.slip in
     let planned : Terms = record { plan = 1000000; order = 0; emergency = false; test = false; smp = 12050; mgp = 0 } in
     let q : Settling = record { resource = 0; day = 1; hour = 11; terms = planned; marks = 1 ∷ []; scheduled = g.S.BaselineSource.meaning c.args.source.now; mandatory = g.S.BaselineSource.meaning c.args.source.now } in
     let taken : State → Type 0 = λ y. refusal (finish slip) y ≡ None in
-    let one : taken told = subst taken (sym c.tell-told.ensures.book) (finishes_told reopened slip c.in-ok-slip.ensures.finishes 1 11 4 c.args.others.now) in
+    let one : taken told = subst taken (sym c.tell-told.ensures.book) (finishes_told reopened slip c.in_ok-slip.ensures.finishes 1 11 4 c.args.others.now) in
     let two : taken settled = subst taken (sym c.settle-settled.ensures.book) (finishes_settled told slip one q) in
-    never_back (refusal (finish slip) settled) c.in-ok-slip.slip c.in-Err.-refused two c.in-Err.ensures.answer
+    never_back (refusal (finish slip) settled) c.in_ok-slip.slip c.in-Err._refused two c.in-Err.ensures.answer
