@@ -12,6 +12,6 @@ pub unreachable-requires : goal.unreachable-requires
 unreachable-requires c =
     let home : State = seen c.reopen.new.self c.args.lines.now c.reopen.new.charges in
     let back : Slip = c.in-Err.field-0.slip in
-    let same : back ≡ c.in-ok-slip.slip = handed_back _ _ c.in-Err.field-0 c.in-Err.ensures.answer in
-    let taken : refusal (finish (named_by back)) home ≡ None = subst (λ (s : Slip). refusal (finish (named_by s)) home ≡ None) (sym same) c.in-ok-slip.ensures.finishes in
-    never_back (refusal (finish (named_by back)) home) back c.in-Err-finish.-refused taken c.in-Err-finish.ensures.answer
+    let same : back ≡ c.in_ok-slip.slip = handed_back _ _ c.in-Err.field-0 c.in-Err.ensures.answer in
+    let taken : refusal (finish (named_by back)) home ≡ None = subst (λ (s : Slip). refusal (finish (named_by s)) home ≡ None) (sym same) c.in_ok-slip.ensures.finishes in
+    never_back (refusal (finish (named_by back)) home) back c.in-Err-finish._refused taken c.in-Err-finish.ensures.answer

@@ -9,5 +9,5 @@ use Rattle.long_run.proofs.trial.Trial.amend.Goals as goal
 pub finish-requires : goal.finish-requires
 finish-requires c =
     let slip : Slip = named_by c.args.slip in
-    let P : handed.Slip → Type 0 = λ s. refusal (finish (named_by s)) (on_desk c.one-call-3.new.self.desk) ≡ None in
-    subst P (sym c.in-Some.ensures.back) (c.one-call-3.ensures.keeps slip (c.correct-within.ensures.keeps slip (c.one-call-2.ensures.keeps slip (c.one-call.ensures.keeps slip c.requires))))
+    let P : handed.Slip → Type 0 = λ s. refusal (finish (named_by s)) (on_desk c.one_call-3.new.self.desk) ≡ None in
+    subst P (sym c.in-Some.ensures.back) (c.one_call-3.ensures.keeps slip (c.correct_within.ensures.keeps slip (c.one_call-2.ensures.keeps slip (c.one_call.ensures.keeps slip c.requires))))

@@ -6,4 +6,4 @@ use Rattle.long_run.specs.Keeping.{on_desk}
 use Rattle.long_run.proofs.trial.Trial.try_settle.Goals as goal
 
 pub returns : goal.returns
-returns c = record { keeps = λ slip e. let P : Desk → Type 0 = λ d. refusal (finish slip) (on_desk d) ≡ None in c.settle-by-got.ensures.keeps slip (subst P (sym c.expect-settling-expected.ensures.same) e) }
+returns c = record { keeps = λ slip e. let P : Desk → Type 0 = λ d. refusal (finish slip) (on_desk d) ≡ None in c.settle_by-got.ensures.keeps slip (subst P (sym c.expect_settling-expected.ensures.same) e) }
