@@ -1,22 +1,24 @@
 // Texts with a bad line: its number, and what is wrong with it.
 use report::request::Request;
+use std::alloc::Global;
+use std::process::Abort;
 use std::test::*;
 
 // Checks what is told of a text that is refused.
-fn check_told(rt: &HostRuntime, text: &str, told: &str) -> Result<(), Fail> {
-    match Request::new(rt.alloc())?.read(text) {
+fn check_told(rt: &impl Abort, alloc: Global, text: &str, told: &str) -> Result<(), Fail> {
+    match Request::new(alloc)?.read(text) {
         Ok(_) => Err(Fail::new("it was read")),
         Err(bad) => {
-            assert_eq!(bad.to_string(rt.alloc())?.as_str(), told);
+            assert_eq!(rt; bad.to_string(alloc)?.as_str(), told);
             Ok(())
         },
     }
 }
 
 // Checks that each text is refused for one reason.
-fn check_all(rt: &HostRuntime, texts: &[&str], told: &str) -> Result<(), Fail> {
+fn check_all(rt: &impl Abort, alloc: Global, texts: &[&str], told: &str) -> Result<(), Fail> {
     for text in texts {
-        check_told(rt, *text, told)?;
+        check_told(rt, alloc, *text, told)?;
     }
     Ok(())
 }
@@ -24,7 +26,7 @@ fn check_all(rt: &HostRuntime, texts: &[&str], told: &str) -> Result<(), Fail> {
 #[test]
 fn unknown_word(rt: HostRuntime) -> Result<(), Fail> {
     let texts = ["days 1", "Day 1", "loads 0 0 1 5", " 1", "da", "\u{e9} 1"];
-    check_all(&rt, &texts, "line 1: unknown word")
+    check_all(&rt, rt.alloc(), &texts, "line 1: unknown word")
 }
 
 #[test]
@@ -41,7 +43,7 @@ fn too_few_numbers(rt: HostRuntime) -> Result<(), Fail> {
         "settle 11 1 5 0 0 0 0 0",
         "energy",
     ];
-    check_all(&rt, &texts, "line 1: too few numbers")
+    check_all(&rt, rt.alloc(), &texts, "line 1: too few numbers")
 }
 
 #[test]
@@ -56,7 +58,7 @@ fn too_many_numbers(rt: HostRuntime) -> Result<(), Fail> {
         "settle 11 1 5 0 0 0 0 0 0 1 1 1 1 1 1 1 1 1 1 1 1 1 1 1 1 1",
         "energy 9 1 1 1 1 1 1 1 1",
     ];
-    check_all(&rt, &texts, "line 1: too many numbers")
+    check_all(&rt, rt.alloc(), &texts, "line 1: too many numbers")
 }
 
 #[test]
@@ -66,9 +68,9 @@ fn a_hundred_numbers(rt: HostRuntime) -> Result<(), Fail> {
     for _ in 0..10 {
         text.push_str(ten)?;
     }
-    check_told(&rt, text.as_str(), "line 1: no day named")?;
+    check_told(&rt, rt.alloc(), text.as_str(), "line 1: no day named")?;
     text.push_str(" 1")?;
-    check_told(&rt, text.as_str(), "line 1: too many numbers")
+    check_told(&rt, rt.alloc(), text.as_str(), "line 1: too many numbers")
 }
 
 #[test]
@@ -85,7 +87,7 @@ fn not_a_number(rt: HostRuntime) -> Result<(), Fail> {
         "day 5\r\n",
         "word x",
     ];
-    check_all(&rt, &texts, "line 1: not a number")
+    check_all(&rt, rt.alloc(), &texts, "line 1: not a number")
 }
 
 #[test]
@@ -113,7 +115,7 @@ fn out_of_range(rt: HostRuntime) -> Result<(), Fail> {
         "energy 150000001",
         "energy 5 3 3",
     ];
-    check_all(&rt, &texts, "line 1: out of range")
+    check_all(&rt, rt.alloc(), &texts, "line 1: out of range")
 }
 
 // The edges on the good side: only the day is lacking.
@@ -133,24 +135,36 @@ fn no_day(rt: HostRuntime) -> Result<(), Fail> {
         "# day 5",
         "\n",
     ];
-    check_all(&rt, &texts, "line 1: no day named")?;
-    check_told(&rt, "", "line 0: no day named")?;
-    check_told(&rt, "customers 2\n\n", "line 2: no day named")?;
-    check_told(&rt, "customers 2\n\n#", "line 3: no day named")
+    check_all(&rt, rt.alloc(), &texts, "line 1: no day named")?;
+    check_told(&rt, rt.alloc(), "", "line 0: no day named")?;
+    check_told(&rt, rt.alloc(), "customers 2\n\n", "line 2: no day named")?;
+    check_told(&rt, rt.alloc(), "customers 2\n\n#", "line 3: no day named")
 }
 
 #[test]
 fn the_first_bad_line(rt: HostRuntime) -> Result<(), Fail> {
-    check_told(&rt, "# day\n\nday 96\nday x", "line 3: out of range")?;
     check_told(
         &rt,
+        rt.alloc(),
+        "# day\n\nday 96\nday x",
+        "line 3: out of range",
+    )?;
+    check_told(
+        &rt,
+        rt.alloc(),
         "day 1\nload 0 0 1 5\nreading 0 0 1 5",
         "line 3: loads and readings in one text",
     )?;
     check_told(
         &rt,
+        rt.alloc(),
         "reading 0 0 1 5\nload 0 0 1",
         "line 2: loads and readings in one text",
     )?;
-    check_told(&rt, "load 0 0 1 5\nload 0 0 1", "line 2: too few numbers")
+    check_told(
+        &rt,
+        rt.alloc(),
+        "load 0 0 1 5\nload 0 0 1",
+        "line 2: too few numbers",
+    )
 }
