@@ -1,15 +1,13 @@
 -- Every run of a book balances.
-use Rattle.std.proofs.Common.{◌≡◌, ℕ, zero, suc, ◌+◌, ◌-◌, ◌*◌, ◌<◌, ◌≤◌, Bool, true, false, cond, not, ◌&&◌, ◌||◌, eqb, ltb, leb, ◌≢◌, ◌⊎◌, List, [], ◌∷◌, length, get_or, replicate, ℤ, pos, ◌+ℤ◌, ◌-ℤ◌, ◌*ℤ◌, ◌<ℤ◌, Some, None, Ok, Err, sum, Option, sym, refl, ap, ◌∙◌, subst, ap₂, inl, inr, ⊎_elim, zero-add, arith}
-use lib.ListN.{length-replicate}
+use Rattle.std.proofs.Common.{◌≡◌, ℕ, ◌+◌, ◌*◌, ◌<◌, ◌≤◌, Bool, true, false, cond, ◌&&◌, ◌||◌, eqb, ltb, leb, ◌⊎◌, List, [], ◌∷◌, length, get_or, ℤ, pos, ◌+ℤ◌, ◌-ℤ◌, ◌*ℤ◌, ◌<ℤ◌, Some, None, Ok, Err, Option, sym, refl, ap, ◌∙◌, subst, ap₂, inl, inr, ⊎_elim, zero-add, arith}
 use Rattle.std.proofs.lemmas.Bool.{both_ways, cond-false, or_from, le-ltb, and_parts, or_cases, eqb-true, leb-true, not-false, ltb-false, cases_lt}
 use Rattle.refusal.specs.declared.Refusal.{Refusal}
 use Rattle.refusal.specs.declared.Refusal.TheVariants.{ShortLists, BadClasses, BadFirstDay, ResourceCount, BuyerCount}
 use Rattle.won.specs.Sums.{total_to}
 use Rattle.won.proofs.Sums.{total_same}
 use Rattle.share.specs.Shares.{share}
-use Rattle.share.specs.Laws as shared
 use Rattle.share.proofs.Sharing.{share_near, shares_below_add_up}
-use Rattle.table.specs.Lines.{no_line, no_charge, paid_of, fined_of}
+use Rattle.table.specs.Lines.{no_line, paid_of, fined_of}
 use Rattle.table.proofs.Filling.{length_filled, read_filled}
 use Rattle.table.proofs.Rows.{row_within}
 use Rattle.book.specs.declared.energies.Energies.{Energies}
@@ -22,14 +20,13 @@ use Rattle.book.specs.State.{State, hours_of, place, hour_at, charge_at, short_f
 use Rattle.book.specs.Telling.{purchase}
 use Rattle.book.specs.Calls.{Call, named, of_book, purchases_in, effect, refusal, state_by, after}
 use Rattle.book.specs.Calls.Call.{tell, settle, withdraw, allot, reopen, finish}
-use Rattle.book.specs.Opening.{Opening, month_has, plain_classes, from_to, opening_tests, opening_refusal, opened, register_of}
-use Rattle.book.specs.Runs.{noted, accepted, last_told, standing, last_allots, held, unspent, payments, fines, over_allotted, Balanced, Fair, WithinAWon, StatesExact, Law}
+use Rattle.book.specs.Opening.{Opening, month_has, plain_classes, opening_tests, opening_refusal, opened, register_of}
+use Rattle.book.specs.Runs.{noted, accepted, last_told, last_allots, unspent, payments, fines, over_allotted, Balanced, Fair, WithinAWon, StatesExact, Law}
 use Rattle.book.specs.Reconciled.{hour_sums, zeros, held_sums, sums_to, reconciled, by_calls, Upheld, Lawful}
 use Rattle.book.proofs.Places.{all_same}
 use Rattle.book.proofs.Purchases.{SoundEnergies}
 use Rattle.book.proofs.Refused.{passed, not_refused, long_lists}
-use Rattle.book.proofs.Sound.{Sound}
-use Rattle.book.proofs.Slips.{copies, held_counts}
+use Rattle.book.proofs.Slips.{held_counts}
 use Rattle.book.proofs.History.{once, Kept, kept_tell, kept_settle, kept_withdraw, kept_allot, kept_reopen, kept_finish}
 
 -- what an accepted opening says

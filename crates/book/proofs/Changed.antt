@@ -1,5 +1,5 @@
 -- What the tests of a line's change and of the readings say.
-use Rattle.std.proofs.Common.{◌≡◌, ℕ, ◌+◌, ◌*◌, not, ltb, List, [], ◌∷◌, ◌++◌, get_or, set, Some, None, Ok, Err, Option, Result, sym, refl, ap, ◌∙◌, ap₂}
+use Rattle.std.proofs.Common.{◌≡◌, ℕ, ◌+◌, ◌*◌, not, ltb, List, [], ◌∷◌, get_or, set, Some, None, Ok, Err, Result, sym, ap, ◌∙◌, ap₂}
 use Rattle.refusal.specs.declared.Refusal.{Refusal}
 use Rattle.refusal.specs.declared.Refusal.TheVariants.{NoLine, NoSuchBuyer, HourNotAllotted}
 use Rattle.refusal.specs.Tests.{refused_if, first_of}

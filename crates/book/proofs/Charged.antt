@@ -1,8 +1,8 @@
 -- The row of charges that an allotting writes.
-use Rattle.std.proofs.Common.{◌≡◌, ℕ, ◌+◌, ◌*◌, ◌^◌, ◌<◌, ◌≤◌, min, List, length, get_or, replicate, ℤ, pos, nat_abs, Some, Option, sym, refl, ap, ◌∙◌, subst, ap₂, zero-add, arith, w64, SFits, to_z, of_z}
+use Rattle.std.proofs.Common.{◌≡◌, ℕ, ◌^◌, ◌≤◌, min, List, length, get_or, replicate, ℤ, pos, nat_abs, Some, Option, sym, ap, ◌∙◌, subst, ap₂, zero-add, arith, w64, SFits, to_z, of_z}
 use mir.Syntax.{w128}
 use Rattle.std.proofs.lemmas.Int.{ints, to_z-of_z}
-use Rattle.share.specs.Shares.{share, shares, shared}
+use Rattle.share.specs.Shares.{shares, shared}
 use Rattle.share.proofs.Keeping.{share_at, shared_some}
 use Rattle.share.proofs.Turns.{share_fits}
 use Rattle.table.specs.declared.lines.BuyerLine.{BuyerLine}

@@ -1,5 +1,5 @@
 -- A loop that enters from the first place on.
-use Rattle.std.proofs.Common.{◌≡◌, ℕ, ◌+◌, List, set, sym, refl, ap, ◌∙◌, zero-add}
+use Rattle.std.proofs.Common.{◌≡◌, ℕ, ◌+◌, List, set, sym, ap, zero-add}
 use Rattle.table.specs.Tables.{filled}
 use Rattle.table.proofs.Filling.{filled_turn}
 

@@ -1,10 +1,10 @@
 -- After every accepted call the book holds what the calls say.
-use Rattle.std.proofs.Common.{◌≡◌, ℕ, zero, suc, ◌+◌, ◌-◌, ◌*◌, ◌<◌, ◌≤◌, Bool, true, false, cond, not, ◌&&◌, eqb, ltb, ◌≢◌, List, [], ◌∷◌, length, Some, None, Option, sym, refl, ap, ◌∙◌, subst, arith}
+use Rattle.std.proofs.Common.{◌≡◌, ℕ, ◌+◌, ◌-◌, ◌<◌, Bool, true, false, cond, not, ◌&&◌, eqb, ◌≢◌, List, ◌∷◌, Some, None, Option, sym, refl, ap, ◌∙◌, arith}
 use Rattle.std.proofs.lemmas.Bool.{eqb-true, eqb-false, eq-eqb, ltb-true, ltb-false, and_parts, and_from, or_parts, not-false, both_ways}
 use Rattle.refusal.specs.declared.Refusal.{Refusal}
 use Rattle.refusal.specs.Tests.{refused_if}
 use Rattle.table.specs.declared.lines.BuyerLine.{BuyerLine}
-use Rattle.table.specs.Lines.{no_line, no_charge}
+use Rattle.table.specs.Lines.{no_line}
 use Rattle.table.proofs.Rows.{row_within, read_row}
 use Rattle.book.specs.declared.energies.Energies.{Energies}
 use Rattle.book.specs.declared.hour.Hour.{Hour}
@@ -14,7 +14,7 @@ use Rattle.book.specs.State.{State, hours_of, in_month, place, hour_at, line_at,
 use Rattle.book.specs.Telling.{energies_of}
 use Rattle.book.specs.Calls.{Settling, Slip, Call, named, of_book, slip_for, with_line, with_row, charges_of, purchases_in, tests, refusal, effect}
 use Rattle.book.specs.Calls.Call.{tell, settle, withdraw, allot, reopen, finish}
-use Rattle.book.specs.Runs.{last_told, standing, last_allots, same_slip, unspent, line_of}
+use Rattle.book.specs.Runs.{last_told, standing, last_allots, unspent, line_of}
 use Rattle.book.proofs.Places.{at_place}
 use Rattle.book.proofs.Purchases.{sound_told}
 use Rattle.book.proofs.Refused.{passed, not_refused, within_month}

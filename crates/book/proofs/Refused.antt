@@ -1,12 +1,12 @@
 -- What lists of tests say.
-use Rattle.std.proofs.Common.{◌≡◌, ℕ, zero, suc, ◌+◌, ◌*◌, ◌<◌, ◌≤◌, Bool, true, false, not, ◌&&◌, ◌||◌, ltb, leb, List, [], ◌∷◌, ◌++◌, length, get_or, Some, None, Option, sym, refl, ap, ◌∙◌, arith}
-use Rattle.std.proofs.lemmas.Bool.{leb-true, and_parts, or_parts, not-false, ltb-false}
+use Rattle.std.proofs.Common.{◌≡◌, ℕ, zero, suc, ◌*◌, ◌<◌, ◌≤◌, Bool, true, false, ◌&&◌, ltb, leb, List, [], ◌∷◌, ◌++◌, length, get_or, Some, None, Option, refl, arith}
+use Rattle.std.proofs.lemmas.Bool.{leb-true, and_parts, or_parts, ltb-false}
 use Rattle.refusal.specs.declared.Refusal.{Refusal}
 use Rattle.refusal.specs.Tests.{refused_if, first_of}
 use Rattle.table.specs.declared.lines.ResourceLine.{ResourceLine}
 use Rattle.table.specs.declared.lines.BuyerLine.{BuyerLine}
 use Rattle.book.specs.declared.register.Register.{Register}
-use Rattle.book.specs.State.{State, hours_of, in_month, place, short_for}
+use Rattle.book.specs.State.{hours_of, in_month, place, short_for}
 
 none_head : (o : Option Refusal) (os : List (Option Refusal)) → first_of (o ∷ os) ≡ None → (o ≡ None) × (first_of os ≡ None)
 none_head None os e = (refl, e)

@@ -1,8 +1,6 @@
 -- What every call leaves true of the book by itself: an allotted hour's charges are the shares of its lines' sums.
-use Rattle.std.proofs.Common.{◌≡◌, ℕ, zero, suc, ◌+◌, ◌*◌, ◌<◌, ◌≤◌, Bool, true, false, ◌&&◌, eqb, ltb, leb, ◌≢◌, List, [], ◌∷◌, ◌++◌, length, get_or, ℤ, Some, None, Option, sym, refl, ap, ◌∙◌, subst, ap₂, arith, length-set}
-use Rattle.std.proofs.lemmas.Bool.{leb-true, and_parts, both_ways, ne_eqb, cond-false, and_left}
-use Rattle.refusal.specs.declared.Refusal.{Refusal}
-use Rattle.refusal.specs.Tests.{refused_if, first_of}
+use Rattle.std.proofs.Common.{◌≡◌, ℕ, ◌+◌, ◌*◌, ◌<◌, ◌≤◌, true, false, ◌&&◌, eqb, ◌≢◌, length, ℤ, Some, Option, sym, refl, ap, ◌∙◌, subst, ap₂, arith, length-set}
+use Rattle.std.proofs.lemmas.Bool.{both_ways, ne_eqb, cond-false, and_left}
 use Rattle.won.specs.Sums.{total_to}
 use Rattle.won.proofs.Sums.{total_same}
 use Rattle.table.specs.declared.lines.ResourceLine.{ResourceLine}
@@ -13,9 +11,8 @@ use Rattle.table.proofs.Rows.{row_within, read_row, read_other_row}
 use Rattle.book.specs.declared.energies.Energies.{Energies}
 use Rattle.book.specs.declared.hour.Hour.{Hour}
 use Rattle.book.specs.declared.hour.Hour.TheVariants.{Blank, Told, Allotted, Correcting}
-use Rattle.book.specs.declared.register.Register.{Register}
 use Rattle.book.specs.Hours.{is_allotted, energies_in, told_anew}
-use Rattle.book.specs.State.{State, hours_of, in_month, place, hour_at, line_at, charge_at, paid_in, fined_in}
+use Rattle.book.specs.State.{State, hours_of, hour_at, line_at, charge_at, paid_in, fined_in}
 use Rattle.book.specs.Calls.{with_energies, with_line, with_row, charges_of, purchases_in}
 use Rattle.book.proofs.Places.{at_place}
 use Rattle.book.proofs.Purchases.{SoundEnergies}

@@ -1,5 +1,5 @@
 -- The six calls on a book: what each is tested for, what it changes, and what it answers.
-use Rattle.std.specs.Prelude.{ℕ, ◌+◌, ◌-◌, ◌*◌, Bool, true, false, cond, not, ◌&&◌, List, [], ◌∷◌, ◌++◌, ℤ, pos, Some, None, Ok, Err, Option, Result, ◌==◌, nat_lt, slice_index, slice_index_or, slice_set}
+use Rattle.std.specs.Prelude.{ℕ, ◌+◌, ◌-◌, ◌*◌, Bool, true, false, cond, not, ◌&&◌, List, [], ◌∷◌, ◌++◌, ℤ, Some, None, Ok, Err, Option, Result, ◌==◌, nat_lt, slice_index, slice_index_or, slice_set}
 use Rattle.refusal.specs.declared.Refusal.{Refusal}
 use Rattle.refusal.specs.declared.Refusal.TheVariants.{ShortLists, NoSuchHour, NoSuchResource, HourAllotted, WrongSlip, NoLine}
 use Rattle.refusal.specs.Tests.{refused_if, first_of}
@@ -16,11 +16,10 @@ use Rattle.share.specs.Shares.{share}
 use Rattle.table.specs.declared.lines.ResourceLine.{ResourceLine}
 use Rattle.table.specs.declared.lines.ResourceLine.TheVariants.{Empty, Settled}
 use Rattle.table.specs.declared.lines.BuyerLine.{BuyerLine}
-use Rattle.table.specs.Lines.{no_line, no_charge}
+use Rattle.table.specs.Lines.{no_charge}
 use Rattle.table.specs.Tables.{filled}
 use Rattle.book.specs.declared.energies.Energies.{Energies}
 use Rattle.book.specs.declared.hour.Hour.{Hour}
-use Rattle.book.specs.declared.hour.Hour.TheVariants.{Blank, Told, Allotted, Correcting}
 use Rattle.book.specs.declared.hour.Step.TheVariants.{Allot, Reopen, Finish}
 use Rattle.book.specs.declared.register.Register.{Register}
 use Rattle.book.specs.declared.register.Resource.{Resource}

@@ -1,5 +1,5 @@
 -- The states of an hour, and how a call steps it.
-use Rattle.std.specs.Prelude.{ℕ, Bool, true, false, not, List, [], ◌∷◌, Some, None, Ok, Err, Option, Result}
+use Rattle.std.specs.Prelude.{Bool, true, false, not, List, [], ◌∷◌, Some, None, Ok, Err, Option, Result}
 use Rattle.refusal.specs.declared.Refusal.{Refusal}
 use Rattle.refusal.specs.declared.Refusal.TheVariants.{HourAllotted, HourInCorrection, NoEnergies, HourNotAllotted, WrongSlip}
 use Rattle.refusal.specs.Tests.{refused_if, first_of}

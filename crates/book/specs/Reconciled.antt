@@ -1,5 +1,5 @@
 -- The month's sums over the hours that a book holds allotted, and what they are after any run of calls.
-use Rattle.std.specs.Prelude.{◌≡◌, ℕ, cond, List, ℤ, pos, ◌+ℤ◌, None, Ok, Err, Result}
+use Rattle.std.specs.Prelude.{◌≡◌, ℕ, cond, List, pos, ◌+ℤ◌, None, Ok, Err, Result}
 use Rattle.refusal.specs.declared.Refusal.{Refusal}
 use Rattle.refusal.specs.declared.Refusal.TheVariants.{ShortLists}
 use Rattle.won.specs.Sums.{total_to}

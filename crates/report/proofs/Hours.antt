@@ -1,12 +1,12 @@
 -- A settle line and an energy line whose parts are known.
-use Rattle.std.proofs.Common.{◌≡◌, ℕ, suc, ◌+◌, ◌-◌, ◌≤◌, Bool, true, false, cond, ◌&&◌, ltb, leb, List, [], ◌∷◌, length, get_or, take, drop, set, replicate, Some, None, Ok, Err, sum, Option, Result, sym, refl, ap, ◌∙◌, arith}
+use Rattle.std.proofs.Common.{◌≡◌, ℕ, suc, ◌-◌, ◌≤◌, Bool, true, false, cond, ◌&&◌, leb, List, [], ◌∷◌, length, get_or, take, drop, replicate, Some, None, Ok, Err, sum, Option, Result, sym, refl, ap, ◌∙◌, arith}
 use Rattle.std.proofs.lemmas.List.{take_all, take_rest}
 use Rattle.std.proofs.lemmas.Bool.{cond-false, le-leb, le-ltb}
 use Rattle.settlement.specs.Kinds.{kind_numbered}
 use Rattle.settlement.specs.declared.terms.Kind.{Kind}
 use Rattle.report.specs.declared.fault.Fault.{Fault}
 use Rattle.report.specs.declared.fault.Fault.TheVariants.{OutOfRange}
-use Rattle.report.specs.Lines.{written, mark_in, marks_written, settling_from, settling_in, purchased, purchases_in}
+use Rattle.report.specs.Lines.{mark_in, marks_written, settling_from, settling_in, purchased, purchases_in}
 
 pub settling_goes : (ns : List ℕ) (k : Kind) (e t : Bool) (m : Result (List ℕ) Fault) → 9 ≤ length ns → length ns ≤ 25 → kind_numbered (get_or ns 1 0) ≡ Some k → mark_in (get_or ns 5 0) ≡ Ok e → mark_in (get_or ns 6 0) ≡ Ok t → marks_written 0 (take (length ns - 9) (drop 9 ns)) (replicate 16 0) ≡ m → settling_in ns ≡ settling_from ns (Some k) (Ok e) (Ok t) m
 settling_goes ns k e t m many few kind emergency test marks =

@@ -1,5 +1,5 @@
 -- A request with nothing in it, and one with a meter's numbers.
-use Rattle.std.proofs.Common.{◌≡◌, ℕ, ◌-◌, false, List, length, take, drop, replicate, Some, None, Ok, Err, Result, sym, refl, ap, ◌∙◌}
+use Rattle.std.proofs.Common.{◌≡◌, ℕ, ◌-◌, false, List, length, take, drop, replicate, Some, None, Ok, Result, sym, refl, ap, ◌∙◌}
 use Rattle.std.proofs.lemmas.List.{take_rest}
 use Rattle.std.proofs.lemmas.Bool.{cond-false}
 use Rattle.report.specs.declared.fault.Fault.{Fault}

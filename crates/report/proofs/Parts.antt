@@ -1,7 +1,7 @@
 -- The pieces of a text, one by one.
-use Rattle.std.proofs.Common.{◌≡◌, ℕ, suc, ◌<◌, true, false, cond, eqb, ◌⊎◌, List, [], ◌∷◌, ◌++◌, length, get_or, Some, None, Option, unwrap_or, sym, refl, ap, ◌∙◌, inl, inr, suc-le-suc, zero-le, arith}
+use Rattle.std.proofs.Common.{◌≡◌, ℕ, suc, ◌<◌, false, eqb, List, [], ◌∷◌, ◌++◌, length, get_or, Some, None, unwrap_or, refl, ap, ◌∙◌, inl, inr, arith}
 use Rattle.std.proofs.lemmas.Bool.{cases_Bool, cond-true, cond-false, eq-eqb, ne_eqb}
-use Rattle.report.specs.Pieces.{before, behind, onto, pieces, lines_of, fields_in}
+use Rattle.report.specs.Pieces.{before, behind, lines_of, fields_in}
 
 abbrev pub Lacks : ℕ → List ℕ → Type 0
 Lacks s bs = (i : ℕ) → i < length bs → get_or bs i 0 ≡ s → ⊥

@@ -1,11 +1,10 @@
 -- The lines of a text, one by one, as a loop reads them.
-use Rattle.std.proofs.Common.{◌≡◌, ℕ, suc, ◌+◌, ◌<◌, ◌≤◌, Bool, true, false, cond, eqb, ◌⊎◌, List, [], ◌∷◌, length, Some, None, Ok, Err, Option, Result, unwrap_or, sym, refl, ap, ◌∙◌, inl, inr, add-one, arith}
+use Rattle.std.proofs.Common.{◌≡◌, ℕ, suc, ◌+◌, ◌<◌, ◌≤◌, Bool, true, false, eqb, List, [], ◌∷◌, length, Ok, Err, Result, unwrap_or, sym, refl, ap, ◌∙◌, inl, inr, add-one, arith}
 use Rattle.std.proofs.lemmas.List.{nil_from_length}
 use Rattle.std.proofs.lemmas.Bool.{cases_Bool, eqb-true, eqb-false}
 use Rattle.report.specs.declared.fault.BadLine.{BadLine}
 use Rattle.report.specs.declared.fault.Fault.{Fault}
-use Rattle.report.specs.declared.fault.Fault.TheVariants.{NoDay}
-use Rattle.report.specs.Asked.{Asked, after_line, at_line, with_line, at_end, day_named, lines_read}
+use Rattle.report.specs.Asked.{Asked, after_line, at_line, day_named, lines_read}
 use Rattle.report.specs.Pieces.{before, behind, lines_of}
 use Rattle.report.proofs.Parts.{lines_more}
 

@@ -1,5 +1,5 @@
 -- Numbers written one behind another, as a loop writes them.
-use Rattle.std.proofs.Common.{◌≡◌, ℕ, suc, ◌+◌, ◌<◌, ◌≤◌, cond, ltb, List, [], ◌∷◌, length, get_or, drop, set, Ok, Err, Result, sym, refl, ap, ◌∙◌, add_assoc, add-one, arith, length-set}
+use Rattle.std.proofs.Common.{◌≡◌, ℕ, suc, ◌+◌, ◌<◌, ◌≤◌, List, [], ◌∷◌, length, get_or, drop, set, Ok, Err, Result, sym, refl, ap, ◌∙◌, add-one, arith, length-set}
 use Rattle.std.proofs.lemmas.List.{at_drop_more, at_drop_all}
 use Rattle.std.proofs.lemmas.Bool.{cond-true, cond-false, lt-ltb, le-ltb}
 use Rattle.report.specs.declared.fault.Fault.{Fault}

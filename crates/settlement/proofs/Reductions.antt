@@ -1,10 +1,10 @@
 -- How the reduction grows with the count of customers.
-use Rattle.std.proofs.Common.{◌≡◌, ℕ, zero, suc, ◌+◌, ◌<◌, ◌≤◌, Bool, true, false, cond, ◌⊎◌, ℤ, ◌+ℤ◌, Ok, Err, Result, sym, refl, ap, ◌∙◌, inl, inr, add-one, arith}
+use Rattle.std.proofs.Common.{◌≡◌, ℕ, zero, suc, ◌+◌, ◌<◌, ◌≤◌, Bool, true, false, ℤ, ◌+ℤ◌, Ok, Err, Result, sym, ap, inl, inr, add-one, arith}
 use Rattle.std.proofs.lemmas.Bool.{cases_eq, cases_Bool}
 use Rattle.refusal.specs.declared.Cause.{Cause}
 use Rattle.refusal.specs.declared.NoFigure.{NoFigure}
 use Rattle.baseline.specs.Meaning.{SourceMeaning}
-use Rattle.settlement.specs.Reduction.{cut, more, reduction}
+use Rattle.settlement.specs.Reduction.{cut, reduction}
 
 module _ (m : SourceMeaning) (asked : ℕ → Bool) (day hour : ℕ) where
   abbrev sum : ℕ → Result ℤ NoFigure

@@ -1,5 +1,5 @@
 -- The figures of a line: loads in Wh, prices in hundredths of a won per kWh, money in won, each fraction dropped.
-use Rattle.std.specs.Prelude.{ℕ, ◌-◌, ◌*◌, ◌/◌, min, Bool, cond, ℤ, pos, negsuc, ◌-ℤ◌}
+use Rattle.std.specs.Prelude.{ℕ, ◌-◌, ◌*◌, ◌/◌, min, cond, ℤ, pos, negsuc, ◌-ℤ◌}
 use Rattle.settlement.specs.declared.terms.Line.{Line}
 use Rattle.settlement.specs.declared.terms.Terms.{Terms}
 

@@ -1,5 +1,5 @@
 -- What a steady source answers.
-use Rattle.std.specs.Prelude.{ℕ, cond, ◌&&◌, Some, None, Ok, Err, int_le, nat_le, nat_lt}
+use Rattle.std.specs.Prelude.{cond, ◌&&◌, Some, None, Ok, Err, int_le, nat_le, nat_lt}
 use Rattle.refusal.specs.declared.Cause.TheVariants.{TooFewDays, OutOfRange}
 use Rattle.load.specs.Meaning.{in_range, is_hour}
 use Rattle.baseline.specs.Meaning.{SourceMeaning, lowest, highest}

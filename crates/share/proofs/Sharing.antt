@@ -1,5 +1,5 @@
 -- The laws of sharing, over the definitions.
-use Rattle.std.proofs.Common.{◌≡◌, ℕ, zero, suc, ◌+◌, ◌<◌, ◌≤◌, List, get_or, ℤ, pos, negsuc, ◌+ℤ◌, ◌-ℤ◌, ◌*ℤ◌, ◌≤ℤ◌, ◌<ℤ◌, sum, sym, refl, ap, ◌∙◌, subst, ⊎_elim, zero-le, eq-zero-or-pos, mul-le-mul_left, add-one, arith}
+use Rattle.std.proofs.Common.{◌≡◌, ℕ, zero, suc, ◌+◌, ◌<◌, ◌≤◌, List, get_or, ℤ, pos, negsuc, ◌+ℤ◌, ◌-ℤ◌, ◌*ℤ◌, ◌≤ℤ◌, ◌<ℤ◌, sum, sym, ap, ◌∙◌, ⊎_elim, zero-le, eq-zero-or-pos, mul-le-mul_left, add-one, arith}
 use native.Mathlib.Nat.{zero-div}
 use lib.IntN.{+ℤ_idr, *ℤ-zero}
 use Rattle.std.proofs.lemmas.Int.{ints, clamps}
@@ -8,7 +8,7 @@ use Rattle.won.specs.Sums.{total_to}
 use Rattle.won.proofs.Floors.{mul_add, sub_mul, floor_low, floor_high, floor_grows, floor_shift, floor_whole}
 use Rattle.share.specs.Shares.{weight_before, part, share}
 use Rattle.share.specs.Laws.{WithinAWon, BetweenNoughtAnd}
-use Rattle.share.proofs.Weights.{weight_more, weight_all, weight_below, weight_within}
+use Rattle.share.proofs.Weights.{weight_more, weight_below, weight_within}
 
 -- the weight before a place, as an integer
 abbrev reach : List ℕ → ℕ → ℤ

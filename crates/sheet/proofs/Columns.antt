@@ -1,5 +1,5 @@
 -- The columns of a sheet balance.
-use Rattle.std.proofs.Common.{◌≡◌, ℕ, zero, suc, ◌<◌, Bool, true, false, cond, eqb, List, [], ◌∷◌, ◌++◌, ℤ, pos, ◌+ℤ◌, ◌-ℤ◌, Ok, Err, sym, refl, ap, ◌∙◌, ap₂, arith}
+use Rattle.std.proofs.Common.{◌≡◌, ℕ, zero, suc, Bool, true, false, cond, eqb, List, [], ◌∷◌, ◌++◌, ℤ, pos, ◌+ℤ◌, ◌-ℤ◌, Ok, Err, sym, refl, ap, ◌∙◌, ap₂, arith}
 use Rattle.std.proofs.lemmas.Int.{ints}
 use Rattle.refusal.specs.declared.Refusal.TheVariants.{ShortLists}
 use Rattle.won.specs.Sums.{total_to}
@@ -9,16 +9,15 @@ use Rattle.book.specs.declared.reconcile.Reconciliation.{Reconciliation}
 use Rattle.book.specs.declared.register.Register.{Register}
 use Rattle.book.specs.Hours.{is_allotted}
 use Rattle.book.specs.State.{State, hours_of, hour_at, line_at, charge_at, short_for}
-use Rattle.book.specs.Calls.{Call}
-use Rattle.book.specs.Opening.{Opening, register_of, opened}
+use Rattle.book.specs.Opening.{register_of, opened}
 use Rattle.book.specs.Runs.{accepted}
-use Rattle.book.specs.Reconciled.{zeros, hour_sums, sums_to, reconciled, by_calls, Run}
+use Rattle.book.specs.Reconciled.{zeros, hour_sums, sums_to, by_calls}
 use Rattle.book.proofs.Balance.{lawful}
 use Rattle.sheet.specs.declared.entry.Key.{Key}
 use Rattle.sheet.specs.declared.entry.Key.TheVariants.{Paid, Fined, Charged, Refunded}
 use Rattle.sheet.specs.declared.entry.Entry.{Entry}
 use Rattle.sheet.specs.Evening.{over_allotted, paid_over, fined_over, charged_over, refunded_over, head_entries, resource_entries, buyer_entries, joined_to, sheet_entries}
-use Rattle.sheet.specs.Columns.{order_of, column, Balances, BalancedSheet}
+use Rattle.sheet.specs.Columns.{order_of, column, BalancedSheet}
 
 -- sums of rows are sums of columns
 

@@ -1,5 +1,5 @@
 -- Entries added one after another, and counts.
-use Rattle.std.proofs.Common.{◌≡◌, ℕ, zero, suc, ◌+◌, ◌<◌, ◌≤◌, Bool, cond, List, [], ◌∷◌, ◌++◌, length, get_or, take, set, sym, refl, ap, ◌∙◌, ap₂, append_assoc, add-one, arith}
+use Rattle.std.proofs.Common.{◌≡◌, ℕ, ◌+◌, ◌<◌, Bool, cond, List, [], ◌∷◌, ◌++◌, length, get_or, take, set, sym, ap, ◌∙◌, ap₂, append_assoc, add-one}
 use Rattle.std.proofs.lemmas.List.{take_more, take_more_set}
 use Rattle.sheet.specs.Evening.{count_to, joined_to}
 

@@ -1,4 +1,4 @@
-use Rattle.std.proofs.Common.{◌≡◌, ℕ, ◌+◌, ◌≤◌, length, replicate, ℤ, pos, sym, refl, ◌∙◌, subst, arith, w64, SFits, to_z, of_z, leb-true}
+use Rattle.std.proofs.Common.{◌≡◌, ◌≤◌, length, replicate, ℤ, pos, sym, refl, ◌∙◌, subst, arith, w64, SFits, to_z, of_z, leb-true}
 use Rattle.std.proofs.lemmas.Int.{ints, to_z-of_z}
 use Rattle.share.specs.Shares.{share}
 use Rattle.share.proofs.Keeping.{shared_out}

@@ -1,4 +1,4 @@
-use Rattle.std.proofs.Common.{◌≡◌, take, sum}
+use Rattle.std.proofs.Common.{◌≡◌}
 use Rattle.share.specs.Shares.{weight_before}
 use Rattle.share.proofs.Turns.{SharedUpto}
 use Rattle.share.proofs.share_out.Given as goal

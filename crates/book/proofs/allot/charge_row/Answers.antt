@@ -1,10 +1,9 @@
-use Rattle.std.proofs.Common.{◌≡◌, ℕ, ◌≤◌, List, length, get_or, set, replicate, ℤ, pos, refl, ap, ◌∙◌, ap₂, arith, w64, to_z, of_z}
+use Rattle.std.proofs.Common.{◌≡◌, ℕ, ◌≤◌, List, length, get_or, set, replicate, ℤ, pos, refl, ap, ◌∙◌, ap₂, arith, w64}
 use Rattle.std.proofs.lemmas.Int.{to_z-of_z}
 use Rattle.share.specs.Shares.{shares}
 use Rattle.table.specs.declared.lines.BuyerLine.{BuyerLine}
 use Rattle.table.specs.Lines.{no_charge}
 use Rattle.table.specs.Tables.{filled}
-use Rattle.book.specs.Calls.{charges_of}
 use Rattle.book.proofs.Charged.{row_of_shares, cell_is}
 use Rattle.book.proofs.Entered.{entered_more}
 use Rattle.book.proofs.allot.charge_row.Goals as goal

@@ -1,4 +1,4 @@
-use Rattle.std.proofs.Common.{◌≡◌, ap, ◌∙◌, arith, w64}
+use Rattle.std.proofs.Common.{ap, ◌∙◌, arith, w64}
 use Rattle.std.proofs.lemmas.Int.{to_z-of_z}
 use Rattle.share.specs.Shares.{shared}
 use Rattle.book.proofs.Charged.{shared_is}

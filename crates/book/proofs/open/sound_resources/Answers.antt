@@ -1,4 +1,4 @@
-use Rattle.std.proofs.Common.{◌≡◌, length, get_or, sym, ap, ◌∙◌, arith}
+use Rattle.std.proofs.Common.{length, get_or, sym, arith}
 use Rattle.book.specs.Opening.{sound_resource, no_registration}
 use Rattle.book.proofs.Alls.{all_more, all_fails}
 use Rattle.book.proofs.open.sound_resources.Goals as goal

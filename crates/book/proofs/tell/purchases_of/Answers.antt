@@ -1,4 +1,4 @@
-use Rattle.std.proofs.Common.{◌≡◌, length, get_or, set, replicate, sym, refl, ap, ◌∙◌, arith}
+use Rattle.std.proofs.Common.{◌≡◌, length, get_or, set, replicate, refl, ap, ◌∙◌, arith}
 use Rattle.table.specs.Tables.{filled}
 use Rattle.table.proofs.Filling.{filled_turn}
 use Rattle.book.proofs.tell.purchases_of.Goals as goal

@@ -1,4 +1,4 @@
-use Rattle.std.proofs.Common.{◌≡◌, ℕ, cond, get_or, set, Ok, Err, sym, refl, ◌∙◌, arith, length-set}
+use Rattle.std.proofs.Common.{ℕ, get_or, set, refl, ◌∙◌, arith, length-set}
 use Rattle.std.proofs.lemmas.Bool.{cond-true, cond-false, lt-ltb, le-ltb}
 use Rattle.report.specs.declared.fault.Fault.TheVariants.{OutOfRange}
 use Rattle.report.specs.Lines.{with_day, days_marked}

@@ -1,4 +1,4 @@
-use Rattle.std.proofs.Common.{◌≡◌, get_or, replicate, sym, ap, ◌∙◌, arith, length-set}
+use Rattle.std.proofs.Common.{get_or, replicate, ◌∙◌, arith, length-set}
 use Rattle.report.specs.Lines.{marks_written}
 use Rattle.report.proofs.Writing.{marks_more, marks_stop, marks_all}
 use Rattle.report.proofs.lines.marks_of.Goals as goal

@@ -1,4 +1,4 @@
-use Rattle.std.proofs.Common.{◌≡◌, [], length, take, ap, arith}
+use Rattle.std.proofs.Common.{[], length, take, ap, arith}
 use Rattle.book.specs.Seen.{seen}
 use Rattle.sheet.specs.Evening.{resource_entries}
 use Rattle.sheet.proofs.Gathered.{block_more}

@@ -1,6 +1,6 @@
-use Rattle.std.proofs.Common.{◌≡◌, [], ◌++◌, length, take, refl, ap, ◌∙◌, ap₂, arith}
+use Rattle.std.proofs.Common.{[], ◌++◌, length, ap, ◌∙◌, arith}
 use Rattle.book.specs.Seen.{seen}
-use Rattle.sheet.specs.Evening.{head_entries, resource_entries, buyer_entries, joined_to, sheet_entries}
+use Rattle.sheet.specs.Evening.{resource_entries, buyer_entries, joined_to, sheet_entries}
 use Rattle.sheet.proofs.gather.gather.Goals as goal
 
 pub returns : goal.returns

@@ -1,4 +1,4 @@
-use Rattle.std.proofs.Common.{◌≡◌, ◌+◌, ◌*◌, get_or, pos, ap, ◌∙◌, SFits, rules}
+use Rattle.std.proofs.Common.{◌+◌, ◌*◌, get_or, pos, ap, ◌∙◌, SFits, rules}
 use mir.Syntax.{w128}
 use Rattle.std.proofs.lemmas.Int.{to_z-of_z}
 use Rattle.table.specs.Lines.{no_line, paid_of, fined_of}

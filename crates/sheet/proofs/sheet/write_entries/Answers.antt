@@ -1,5 +1,4 @@
-use Rattle.std.proofs.Common.{◌≡◌, false, ltb, length, Ok, ap, ◌∙◌, arith, rules}
-use Rattle.std.proofs.lemmas.Bool.{le-ltb}
+use Rattle.std.proofs.Common.{ap, ◌∙◌, arith, rules}
 use Rattle.sheet.specs.Text.{text_of}
 use Rattle.sheet.proofs.Tapes.{page_whole, answer_fits, written_fits}
 use Rattle.sheet.proofs.sheet.write_entries.Goals as goal

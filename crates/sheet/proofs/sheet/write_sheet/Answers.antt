@@ -1,8 +1,8 @@
-use Rattle.std.proofs.Common.{◌≡◌, ℕ, ◌≤◌, length, IfOk, Result, sym, refl, ap, ◌∙◌, subst}
+use Rattle.std.proofs.Common.{ℕ, ◌≤◌, length, IfOk, Result, sym, ap, ◌∙◌, subst}
 use Rattle.refusal.specs.declared.Refusal.{Refusal}
 use Rattle.book.specs.State.{State}
 use Rattle.book.specs.Seen.{seen, granted_or}
-use Rattle.sheet.specs.Evening.{sheet_entries, sheet_text}
+use Rattle.sheet.specs.Evening.{sheet_text}
 use Rattle.sheet.specs.Text.{text_of}
 use Rattle.sheet.specs.Written.{short_buffer, written_by}
 use Rattle.sheet.proofs.Answered.{lists_refused, buffer_refuses, answer_within}

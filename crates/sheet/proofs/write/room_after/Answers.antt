@@ -1,6 +1,6 @@
-use Rattle.std.proofs.Common.{◌≡◌, length, ap, arith}
+use Rattle.std.proofs.Common.{length, ap, arith}
 use Rattle.std.proofs.lemmas.List.{take_all}
-use Rattle.sheet.specs.Text.{text_of, line_text}
+use Rattle.sheet.specs.Text.{text_of}
 use Rattle.sheet.proofs.Lines.{lines_length, lines_fit}
 use Rattle.sheet.proofs.write.room_after.Goals as goal
 

@@ -1,4 +1,4 @@
-use Rattle.std.proofs.Common.{◌≡◌, [], ◌∷◌, get_or, take, ap, ◌∙◌, arith, length-append, length-take}
+use Rattle.std.proofs.Common.{[], ◌∷◌, get_or, take, ap, ◌∙◌, arith, length-append, length-take}
 use Rattle.std.proofs.lemmas.List.{take_more, take_all}
 use Rattle.sheet.specs.Tape.{after}
 use Rattle.sheet.proofs.Tapes.{after_more, room_left}

@@ -1,7 +1,7 @@
-use Rattle.std.proofs.Common.{◌≡◌, length, take, ap, ◌∙◌, arith}
+use Rattle.std.proofs.Common.{take, ap, ◌∙◌, arith}
 use Rattle.std.proofs.lemmas.List.{take_all}
 use Rattle.sheet.specs.Tape.{after}
-use Rattle.sheet.specs.Text.{text_of, line_text}
+use Rattle.sheet.specs.Text.{text_of}
 use Rattle.sheet.proofs.Tapes.{after_more, ahead_length}
 use Rattle.sheet.proofs.Lines.{lines_more, lines_fit}
 use Rattle.sheet.proofs.write.write_lines.Goals as goal

@@ -1,4 +1,4 @@
-use Rattle.std.proofs.Common.{◌≡◌, ℕ, ◌+◌, ◌*◌, ◌^◌, get_or, ℤ, ap, arith}
+use Rattle.std.proofs.Common.{◌≡◌, ◌+◌, ◌*◌, ◌^◌, get_or, ap, arith}
 use Rattle.won.proofs.Sums.{total_turn, within_turn, total_end}
 use Rattle.table.proofs.table.row_sums.Goals as goal
 

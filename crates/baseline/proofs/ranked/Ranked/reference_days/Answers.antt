@@ -1,7 +1,7 @@
-use Rattle.std.proofs.Common.{◌≡◌, suc, ◌+◌, ◌-◌, ◌<◌, ◌≤◌, ◌++◌, length, take, sym, ap, ◌∙◌, inl, inr, arith, rules, length-set}
+use Rattle.std.proofs.Common.{◌+◌, ◌-◌, ◌<◌, ◌++◌, length, take, sym, ap, ◌∙◌, arith, rules, length-set}
 use denote.Enum.Bare.{same_true, same_false}
 use Rattle.load.specs.contracts.loads.DayClass.{the_type}
-use Rattle.baseline.proofs.Search.{class_same, class_other, ahead, ahead_other, ahead_none, ahead_some, ahead_found, ahead_spent, ahead_first, stored, all_found}
+use Rattle.baseline.proofs.Search.{class_same, class_other, ahead_other, ahead_none, ahead_some, ahead_found, ahead_spent, ahead_first, stored, all_found}
 use Rattle.baseline.proofs.ranked.Ranked.reference_days.Goals as goal
 use Rattle.baseline.proofs.ranked.Ranked.reference_days.Goals.{else-search-test, then-search-test+then-count-self, then-count-self-via-then-count-self, then-count-self-via-else-count-self+then-left-eq0}
 

@@ -1,4 +1,4 @@
-use Rattle.std.proofs.Common.{◌≡◌, sym, refl, ap, ◌∙◌}
+use Rattle.std.proofs.Common.{sym, refl, ap, ◌∙◌}
 use Rattle.book.specs.declared.hour.Step.TheVariants.{Allot}
 use Rattle.book.specs.State.{State, place}
 use Rattle.book.specs.Calls.{place_tests, state_by}

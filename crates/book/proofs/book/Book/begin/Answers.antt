@@ -1,4 +1,4 @@
-use Rattle.std.proofs.Common.{◌≡◌, ◌*◌, ap, ◌∙◌}
+use Rattle.std.proofs.Common.{◌*◌, ap, ◌∙◌}
 use Rattle.table.specs.Lines.{no_line, no_charge}
 use Rattle.table.specs.Tables.{filled}
 use Rattle.book.specs.declared.register.Register.{Register}

@@ -1,6 +1,4 @@
-use Rattle.std.proofs.Common.{◌≡◌, ◌*◌, ◌≤◌, replicate, ℤ, sym, refl, ap, ◌∙◌, ap₂, arith, w64, to_z, of_z}
-use mir.Syntax.{w128}
-use Rattle.std.proofs.lemmas.Int.{ints}
+use Rattle.std.proofs.Common.{◌*◌, replicate, ℤ, ◌∙◌, ap₂}
 use Rattle.table.specs.Lines.{no_charge}
 use Rattle.table.specs.Tables.{filled}
 use Rattle.book.specs.State.{State, paid_in, fined_in}

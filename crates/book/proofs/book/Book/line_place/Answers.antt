@@ -1,10 +1,10 @@
-use Rattle.std.proofs.Common.{◌<◌, not, ltb, [], ◌∷◌}
+use Rattle.std.proofs.Common.{◌<◌, [], ◌∷◌}
 use Rattle.std.proofs.lemmas.Result.{err_from_is_err_and}
 use Rattle.refusal.specs.Tests.{refused_if}
-use Rattle.refusal.specs.declared.Refusal.TheVariants.{HourAllotted, NoSuchResource}
+use Rattle.refusal.specs.declared.Refusal.TheVariants.{HourAllotted}
 use Rattle.book.specs.Hours.{is_allotted}
 use Rattle.book.specs.State.{State, hours_of, place, hour_at}
-use Rattle.book.specs.Calls.{named, place_tests, resource_tests}
+use Rattle.book.specs.Calls.{named, resource_tests}
 use Rattle.book.specs.Seen.{seen}
 use Rattle.book.proofs.Decided.{passed_on, none_made, then_refused, then_granted}
 use Rattle.book.proofs.book.Book.line_place.Goals as goal

@@ -1,6 +1,5 @@
-use Rattle.std.proofs.Common.{◌≡◌, ℕ, ◌*◌, ◌^◌, ap, ◌∙◌, arith}
-use Rattle.book.specs.State.{State, hours_of}
-use Rattle.book.specs.Reconciled.{sums_to}
+use Rattle.std.proofs.Common.{◌^◌}
+use Rattle.book.specs.State.{State}
 use Rattle.book.specs.Seen.{seen}
 use Rattle.book.proofs.MonthSums.{sums_more, added_within}
 use Rattle.book.proofs.book.Book.month_sums.Goals as goal

@@ -1,4 +1,4 @@
-use Rattle.std.proofs.Common.{◌≡◌, sym, ap, ◌∙◌}
+use Rattle.std.proofs.Common.{sym, ap, ◌∙◌}
 use Rattle.book.specs.State.{State}
 use Rattle.book.specs.Opening.{Opening, opening_refusal, opening_by}
 use Rattle.book.specs.Seen.{seen, told_by, granted_or}

@@ -1,4 +1,4 @@
-use Rattle.std.proofs.Common.{◌≡◌, sym, ap}
+use Rattle.std.proofs.Common.{sym, ap}
 use Rattle.book.specs.State.{State}
 use Rattle.book.specs.Calls.{state_by}
 use Rattle.book.specs.Calls.Call.{withdraw}

@@ -1,4 +1,4 @@
-use Rattle.std.proofs.Common.{◌≡◌, get_or, set, refl, ap, ◌∙◌}
+use Rattle.std.proofs.Common.{get_or, set, refl, ap, ◌∙◌}
 use Rattle.table.specs.Tables.{filled}
 use Rattle.book.specs.declared.register.Register.{Register}
 use Rattle.book.specs.Opening.{with_resources, resource_of, no_registration}

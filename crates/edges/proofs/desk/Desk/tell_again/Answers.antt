@@ -1,4 +1,4 @@
-use Rattle.std.proofs.Common.{[], ◌∷◌, ap, ◌∙◌}
+use Rattle.std.proofs.Common.{ap, ◌∙◌}
 use Rattle.book.specs.State.{State}
 use Rattle.book.specs.Calls.{refusal}
 use Rattle.book.specs.Calls.Call.{finish}

@@ -1,4 +1,4 @@
-use Rattle.std.proofs.Common.{◌≡◌, ◌≢◌, sym, refl, ap, ◌∙◌, subst}
+use Rattle.std.proofs.Common.{◌≢◌, sym, ap, ◌∙◌, subst}
 use Rattle.book.specs.declared.slip.Slip as handed
 use Rattle.book.specs.State.{State, place}
 use Rattle.book.specs.Calls.{refusal}

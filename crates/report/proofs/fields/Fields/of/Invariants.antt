@@ -1,4 +1,4 @@
-use Rattle.std.proofs.Common.{◌≡◌, ℕ, suc, ◌≤◌, length, take, Ok, fold}
+use Rattle.std.proofs.Common.{◌≡◌, ◌≤◌, length, take, Ok, fold}
 use Rattle.std.specs.Option.{option_map}
 use Rattle.report.specs.Numbers.{with_field, numbers_in}
 use Rattle.report.specs.Pieces.{fields_in}

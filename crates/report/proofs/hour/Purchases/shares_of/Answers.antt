@@ -1,4 +1,4 @@
-use Rattle.std.proofs.Common.{◌≡◌, ℤ, ap, ◌∙◌, w64, SFits, rules}
+use Rattle.std.proofs.Common.{ℤ, ap, ◌∙◌, w64, SFits, rules}
 use Rattle.std.proofs.lemmas.Int.{to_z-of_z}
 use Rattle.share.specs.Shares.{shared}
 use Rattle.report.proofs.hour.Purchases.shares_of.Goals as goal

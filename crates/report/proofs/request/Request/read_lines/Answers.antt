@@ -1,4 +1,4 @@
-use Rattle.std.proofs.Common.{◌≡◌, ℕ, ◌+◌, ◌<◌, ◌≤◌, List, [], length, Ok, Err, Option, Result, unwrap_or, sym, ap, ◌∙◌, arith, rules}
+use Rattle.std.proofs.Common.{◌≡◌, ℕ, ◌<◌, List, [], length, Ok, Option, Result, unwrap_or, ap, ◌∙◌, arith, rules}
 use Rattle.report.specs.declared.fault.BadLine.{BadLine}
 use Rattle.report.specs.Asked.{Asked, asked, lines_read, day_named}
 use Rattle.report.specs.Pieces.{behind, lines_of}
