@@ -1,6 +1,6 @@
 -- The worked figures: baselines, adjustments, lines and shares.
 use Rattle.std.specs.Prelude.{◌≡◌, ℕ, Bool, true, false, List, [], ◌∷◌, ℤ, pos, negsuc, ◌+ℤ◌, Some, codes}
-use Rattle.std.specs.List.{AllByRecursion as All}
+use Rattle.std.specs.List.{AllByRecursion}
 use Rattle.baseline.specs.Sources.{brought_by}
 use Rattle.settlement.specs.declared.terms.Line.{Line}
 use Rattle.settlement.specs.declared.terms.Terms.{Terms}
@@ -54,4 +54,4 @@ figures =
 
 -- each of them is what it is said to be
 abbrev pub FiguresHold : Type 0
-FiguresHold = All (λ f. f.0 ≡ f.1) figures
+FiguresHold = AllByRecursion (λ f. f.0 ≡ f.1) figures

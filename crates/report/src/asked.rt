@@ -73,7 +73,7 @@ impl Request {
         }
     }
 
-    // The usual loads by a method over a record: left_out days do not stand, and baselines are adjusted on days with an order.
+    // The usual loads by a method over a record: left-out days do not stand, and baselines are adjusted on days with an order.
     pub fn source<R: LoadRecord>(
         &self,
         loads: R,
