@@ -1,7 +1,7 @@
 -- Reference days are all apart, so that a method has some left once it strikes.
 use Rattle.std.proofs.Common.{◌≡◌, ℕ, zero, suc, ◌<◌, ◌≤◌, Bool, true, false, cond, List, [], ◌∷◌, ◌++◌, length, take, Some, None, filter, Option, ap, arith, rules}
 use Rattle.std.specs.Option.{option_map, option_to_list}
-use Rattle.std.specs.List.{AllByRecursion as All}
+use Rattle.std.specs.List.{AllByRecursion}
 use Rattle.std.proofs.ByRecursion.{All-weaker}
 use Rattle.std.proofs.lemmas.Bool.Decides.{nat_tests}
 use Rattle.baseline.specs.declared.method.Method.{Method}
@@ -61,7 +61,7 @@ falling_on : (m : LoadMeaning) (c h d : ℕ) (xs : List ℕ) → Falls d xs → 
 falling_on m c h d [] _ = tt
 falling_on m c h d (x ∷ xs) (l, rest) = falling_one (m.stands c x) (m.load c x h) d x (references_on m c h xs) l (falling_on m c h x xs rest)
 
-falling_under : (d : ℕ) (rs : List Reference) → Falling d rs → All (λ r. r.day < d) rs
+falling_under : (d : ℕ) (rs : List Reference) → Falling d rs → AllByRecursion (λ r. r.day < d) rs
 falling_under d [] _ = tt
 falling_under d (r ∷ rs) (l, rest) = (l, falling_under d rs (falling_higher r.day d rs (omega arith) rest))
 

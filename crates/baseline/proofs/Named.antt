@@ -2,7 +2,7 @@
 use Rattle.std.proofs.Common.{◌≡◌, ℕ, ◌+◌, ◌<◌, ◌≤◌, false, List, [], ◌∷◌, Err, refl, ap, ◌∙◌, subst, inl, inr}
 use native.Mathlib.Bridge.{le_prop}
 use Rattle.std.specs.Str.{bytes_eq}
-use Rattle.std.specs.List.{AllByRecursion as All}
+use Rattle.std.specs.List.{AllByRecursion}
 use Rattle.std.proofs.lemmas.Slice.Eq.{bytes_eq-Decides}
 use Rattle.std.proofs.lemmas.Bool.{cases_Bool, cond-false}
 use Rattle.refusal.specs.declared.Refusal.TheVariants.{UnknownMethod}
@@ -13,7 +13,7 @@ use Rattle.baseline.specs.Methods.{method_in}
 other : (xs ys : List ℕ) → (xs ≡ ys → ⊥) → bytes_eq xs ys ≡ false
 other xs ys no' = elim (cases_Bool (bytes_eq xs ys)) [ inl e ↦ absurd (no' ((bytes_eq-Decides xs ys).0 e)) | inr e ↦ e ]
 
-pub in_no_row : (rows : List (List ℕ × Method)) (text : List ℕ) → All (λ row. text ≡ row.0 → ⊥) rows → method_in rows text ≡ Err UnknownMethod
+pub in_no_row : (rows : List (List ℕ × Method)) (text : List ℕ) → AllByRecursion (λ row. text ≡ row.0 → ⊥) rows → method_in rows text ≡ Err UnknownMethod
 in_no_row [] text _ = refl
 in_no_row (row ∷ rows) text (here, rest) = cond-false _ _ _ (other text row.0 here) ∙ in_no_row rows text rest
 

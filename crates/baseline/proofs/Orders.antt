@@ -1,6 +1,6 @@
 -- Records in a total order: their ranks, and which are left once some are struck, as the definitions of days have it.
 use Rattle.std.proofs.Common.{◌≡◌, ℕ, ◌-◌, Bool, true, false, ◌&&◌, ltb, leb, List, [], ◌∷◌, length, count_by, filter}
-use Rattle.std.specs.List.{AllByRecursion as All}
+use Rattle.std.specs.List.{AllByRecursion}
 
 -- a total order, by its test "lower than"
 pub record TotalOrder {X : Type 0} (lower : X → X → Bool) : Type 0 where
@@ -27,4 +27,4 @@ unstruck_by lower low high xs = filter (stays_by lower low high xs) xs
 -- no two of the records are the same
 abbrev pub Apart : {X : Type 0} → List X → Type 0
 Apart [] = Unit {0}
-Apart (x ∷ xs) = All (λ y. x ≡ y → ⊥) xs × Apart xs
+Apart (x ∷ xs) = AllByRecursion (λ y. x ≡ y → ⊥) xs × Apart xs

@@ -1,6 +1,6 @@
 -- Ranks among records: how many records are left once some are struck.
 use Rattle.std.proofs.Common.{◌≡◌, ℕ, zero, suc, ◌+◌, ◌-◌, ◌<◌, ◌≤◌, Bool, true, false, ◌&&◌, ltb, leb, List, [], ◌∷◌, length, get_or, count_by, sym, ap, ◌∙◌, inl, inr, arith}
-use Rattle.std.specs.List.{AllByRecursion as All}
+use Rattle.std.specs.List.{AllByRecursion}
 use Rattle.std.proofs.ByRecursion.{All-get_or, All-from_get_or}
 use Rattle.std.proofs.lemmas.Bool.{cases_Bool, cases_lt, lt-ltb, le-ltb}
 use Rattle.std.proofs.lemmas.Bool.Decides.{nat_tests}
@@ -69,7 +69,7 @@ module _ {X : Type 0} (lower : X → X → Bool) (o : TotalOrder lower) where
       let rest : count_by (foremost lower ys k) ys ≡ k = inner k (omega arith) in
       count_cons (foremost lower (y ∷ ys) k) y ys ∙ omega (arith, own, others, rest)
 
-  early : (y : X) (ys : List X) → All (λ x. y ≡ x → ⊥) ys → ((k : ℕ) → k ≤ length ys → count_by (foremost lower ys k) ys ≡ k) → (k : ℕ) → k ≤ length ys → rank_by lower ys y ≤ k → count_by (foremost lower (y ∷ ys) (suc k)) (y ∷ ys) ≡ suc k
+  early : (y : X) (ys : List X) → AllByRecursion (λ x. y ≡ x → ⊥) ys → ((k : ℕ) → k ≤ length ys → count_by (foremost lower ys k) ys ≡ k) → (k : ℕ) → k ≤ length ys → rank_by lower ys y ≤ k → count_by (foremost lower (y ∷ ys) (suc k)) (y ∷ ys) ≡ suc k
   early y ys apart inner k within h =
       let own : one (foremost lower (y ∷ ys) (suc k) y) ≡ 1 = ap one (lt-ltb (rank_by lower (y ∷ ys) y) (suc k) (omega (arith, own_rank y ys))) in
       let others = count_same (foremost lower (y ∷ ys) (suc k)) (foremost lower ys k) ys

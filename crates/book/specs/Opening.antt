@@ -1,5 +1,5 @@
 -- Opening a book: what it is tested for, and what it leaves.
-use Rattle.std.specs.Prelude.{ℕ, zero, suc, ◌*◌, Bool, true, cond, not, ◌&&◌, ◌||◌, ltb, List, [], ◌∷◌, length, replicate, Some, None, Option, ◌==◌, nat_le, nat_lt, slice_index, slice_index_or}
+use Rattle.std.specs.Prelude.{ℕ, zero, suc, ◌*◌, Bool, true, cond, not, ◌&&◌, ◌||◌, List, [], ◌∷◌, length, replicate, Some, None, Option, ◌==◌, nat_le, nat_lt, slice_index, slice_index_or}
 use Rattle.refusal.specs.declared.Refusal.{Refusal}
 use Rattle.refusal.specs.declared.Refusal.TheVariants.{BadMonth, BadClasses, BadFirstDay, ResourceCount, BadResource, BuyerCount, AlreadyOpened, ShortLists}
 use Rattle.refusal.specs.Tests.{refused_if, first_of}
@@ -40,7 +40,7 @@ month_has month days =
 
 -- each day is a workday, 0, or a holiday, 1
 abbrev pub plain_classes : List ℕ → Bool
-plain_classes classes = all_to (length classes) (λ d. ltb (slice_index classes d) 2)
+plain_classes classes = all_to (length classes) (λ d. nat_lt (slice_index classes d) 2)
 
 abbrev pub no_registration : Registration
 no_registration = record { kind = 0; aggregator = 0; customers = 0 }

@@ -1,5 +1,5 @@
 -- What the shares xs of an amount by the weights ws keep.
-use Rattle.std.specs.Prelude.{◌≡◌, ℕ, ◌<◌, ◌≤◌, List, get_or, ℤ, pos, ◌+ℤ◌, ◌*ℤ◌, ◌≤ℤ◌, ◌<ℤ◌, sum, slice_index, slice_index_or, unsigned_abs}
+use Rattle.std.specs.Prelude.{◌≡◌, ℕ, ◌<◌, ◌≤◌, List, ℤ, pos, ◌+ℤ◌, ◌*ℤ◌, ◌≤ℤ◌, ◌<ℤ◌, sum, slice_index, slice_index_or, unsigned_abs}
 use Rattle.std.specs.Int.{int_min, int_max}
 use Rattle.won.specs.Sums.{total_to}
 use Rattle.share.specs.Shares.{share}
@@ -10,7 +10,7 @@ EachShare amount ws xs = (k : ℕ) → slice_index_or xs k (pos 0) ≡ share amo
 
 -- the sixteen shares add up to the amount, if any weight is above 0
 abbrev pub AddUp : ℤ → List ℕ → List ℤ → Type 0
-AddUp amount ws xs = 0 < sum ws → total_to 16 (λ k. get_or xs k (pos 0)) ≡ amount
+AddUp amount ws xs = 0 < sum ws → total_to 16 (λ k. slice_index_or xs k (pos 0)) ≡ amount
 
 -- a share is less than one won from amount × weight ÷ total, told in whole numbers
 abbrev pub WithinAWon : ℤ → List ℕ → ℕ → ℤ → Type 0

@@ -1,5 +1,5 @@
 -- The entries of the evening sheet of a book.
-use Rattle.std.specs.Prelude.{ℕ, zero, suc, ◌+◌, Bool, cond, List, [], ◌∷◌, ◌++◌, get_or, ℤ, pos, slice_index_or}
+use Rattle.std.specs.Prelude.{ℕ, zero, suc, ◌+◌, Bool, cond, List, [], ◌∷◌, ◌++◌, ℤ, pos, slice_index_or}
 use Rattle.won.specs.Sums.{total_to}
 use Rattle.table.specs.Lines.{paid_of, fined_of}
 use Rattle.book.specs.declared.energies.Energies.{Energies}
@@ -58,7 +58,7 @@ head_entries s hours =
 abbrev pub resource_entries : State → ℕ → List Entry
 resource_entries b r =
     entry Resource (pos r)
-    ∷ entry Aggregator (pos (get_or b.register.resources r no_resource).aggregator)
+    ∷ entry Aggregator (pos (slice_index_or b.register.resources r no_resource).aggregator)
     ∷ entry Paid (paid_over b r)
     ∷ entry Fined (fined_over b r)
     ∷ []

@@ -1,5 +1,5 @@
 // One table over lines of either sort; a place past the list's end reads as an empty line and is not written.
-ghost use Rattle.std.specs.Prelude.{◌≡◌, ◌+◌, ◌*◌, ◌^◌, ◌<◌, ◌≤◌, min, length, get_or, ◌+ℤ◌, slice_index_or, slice_set, unsigned_abs};
+ghost use Rattle.std.specs.Prelude.{◌≡◌, ◌+◌, ◌*◌, ◌^◌, ◌<◌, ◌≤◌, min, length, ◌+ℤ◌, slice_index_or, slice_set, unsigned_abs};
 ghost use Rattle.won.specs.Sums.{total_to};
 ghost use Rattle.table.specs.Tables.{filled};
 
@@ -41,7 +41,7 @@ fn write<L: Amounts>(lines: &mut [L], place: usize, line: L)
 // Writes a row's lines from a place on, and empty lines past the row's end, `count` lines in all.
 fn fill<L: Amounts>(lines: &mut [L], from: usize, count: usize, row: &[L])
     requires room { from + count < 2 ^ 64 }
-    ensures value { lines.new ≡ filled lines.old from count (λ k. get_or row.now k L.Amounts.empty) }
+    ensures value { lines.new ≡ filled lines.old from count (λ k. slice_index_or row.now k L.Amounts.empty) }
 {
     for k in 0..count.min(lines.len()) {
         write(lines, from + k, line_of(row, k));
@@ -126,7 +126,7 @@ impl<'a, L: Amounts> Table<'a, L> {
 
     // Writes an hour's row, as far as the lines handed in go.
     pub fn put_row(&mut self, hour: u32, row: &[L])
-        ensures after { self.new.lines.now ≡ filled self.old.lines.now (hour * self.old.width) (min self.old.width (length row.now)) (λ k. get_or row.now k L.Amounts.empty) }
+        ensures after { self.new.lines.now ≡ filled self.old.lines.now (hour * self.old.width) (min self.old.width (length row.now)) (λ k. slice_index_or row.now k L.Amounts.empty) }
         ensures same { self.new.lines.ghost_name ≡ self.old.lines.ghost_name }
         ensures wide { self.new.width ≡ self.old.width }
     {
