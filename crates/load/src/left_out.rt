@@ -19,10 +19,7 @@ pub struct LeftOut<'a, R> {
 fn is_marked(marks: &[u8], day: u32) -> bool
     ensures value { result ≡ is_left_out (at marks.now day) }
 {
-    match byte_of(marks, day) {
-        Some(mark) => mark == LEFT_OUT,
-        None => false,
-    }
+    byte_of(marks, day) == Some(LEFT_OUT)
 }
 
 impl<R: LoadRecord> LoadRecord for LeftOut<'_, R> {

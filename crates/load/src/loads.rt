@@ -12,6 +12,22 @@ pub enum DayClass {
     Neither,
 }
 
+// Byte 0 is a workday, byte 1 a holiday, any other neither.
+impl From<u8> for DayClass {
+    ghost use Rattle.std.specs.Prelude.{◌≡◌, Some};
+    ghost use Rattle.load.specs.Records.{class_of};
+
+    ghost from_gives = { λ byte class. class ≡ class_of (Some byte) };
+
+    fn from(byte: u8) -> DayClass {
+        match byte {
+            0 => DayClass::Workday,
+            1 => DayClass::Holiday,
+            _ => DayClass::Neither,
+        }
+    }
+}
+
 // What the meters of some customers measured, in Wh.
 pub trait LoadRecord {
     ghost meaning: { Self → LoadMeaning };

@@ -12,7 +12,7 @@ const CUSTOMERS: u32 = 16;
 const DAYS: u32 = 96;
 
 // Hours are 1 to 24.
-const HOURS: u32 = 24;
+pub(crate) const HOURS: u32 = 24;
 
 // A load above this many Wh counts as missing.
 const MAX_LOAD: u32 = 20_000_000;
@@ -28,14 +28,7 @@ pub fn is_customer_day(customer: u32, day: u32) -> bool
 pub fn is_hour(hour: u32) -> bool
     ensures value { result ≡ is_hour hour }
 {
-    1 <= hour && hour <= HOURS
-}
-
-// The number at a place of a list, or none past its end.
-pub(crate) fn number_at(numbers: &[u32], place: usize) -> Option<u32>
-    ensures value { result ≡ at numbers.now place }
-{
-    numbers.get(place).copied()
+    (1..=HOURS).contains(&hour)
 }
 
 // The byte of a day in a table, or none past its end.
@@ -50,10 +43,7 @@ pub(crate) fn plausible_load(load: Option<u32>) -> Option<u32>
     ensures value { result ≡ plausible load }
     ensures bounded { IfSome result (λ v. v ≤ 20000000) }
 {
-    match load {
-        Some(n) if n <= MAX_LOAD => Some(n),
-        _ => None,
-    }
+    load.filter(|wh| *wh <= MAX_LOAD)
 }
 
 // An hour of a customer's: each question of a record and of a source is about one.
@@ -97,7 +87,7 @@ impl CustomerHour {
         ensures bounded { IfSome result (λ v. v ≤ 20000000) }
     {
         let place = self.place()?;
-        plausible_load(number_at(loads, place))
+        plausible_load(loads.get(place).copied())
     }
 }
 
@@ -108,9 +98,5 @@ pub(crate) fn class_in(classes: &[u8], day: u32) -> DayClass
     if day >= DAYS {
         return DayClass::Neither;
     }
-    match byte_of(classes, day) {
-        Some(0) => DayClass::Workday,
-        Some(1) => DayClass::Holiday,
-        _ => DayClass::Neither,
-    }
+    byte_of(classes, day).map_or(DayClass::Neither, DayClass::from)
 }
