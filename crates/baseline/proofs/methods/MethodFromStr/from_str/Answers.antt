@@ -1,22 +1,25 @@
-use Rattle.std.proofs.Common.{Ok, sym, ap, ◌∙◌}
-use Rattle.baseline.specs.Methods.{methods, method_or_refusal}
-use Rattle.baseline.proofs.Named.{in_no_row, of_terms}
+use Rattle.std.proofs.Common.{Ok, ap, ◌∙◌, sym}
+use Rattle.baseline.specs.Methods.{method_or_refusal}
+use Rattle.baseline.proofs.Named.{same_row}
 use Rattle.baseline.proofs.methods.MethodFromStr.from_str.Goals as goal
-use Rattle.baseline.proofs.methods.MethodFromStr.from_str.Goals.{in-max45, in-mid610, in-mid46, in-mid810, in-hmax45, in-hmid610, in-hmid46}
 
-pub returns-in_default : goal.returns-in_default
-returns-in_default c =
-    let r = c.in_default in
-    sym (in_no_row methods c.args.text.now (r.not-max45, (r.not-mid610, (r.not-mid46, (r.not-mid810, (r.not-hmax45, (r.not-hmid610, (r.not-hmid46, tt))))))))
+pub returns-in-max45 : goal.returns-in-max45
+returns-in-max45 c = ap Ok (same_row _ _ _ _ _ _ _ _ _) ∙ sym (ap method_or_refusal c.in-max45.is)
 
-pub returns : goal.returns
-returns c =
-    elim c.match-text.branch [
-      | in-max45 w ↦ ap Ok (of_terms _ _ w.class-is _ _ _ _) ∙ sym (ap method_or_refusal w.in-max45.is)
-      | in-mid610 w ↦ ap Ok (of_terms _ _ w.class-is _ _ _ _) ∙ sym (ap method_or_refusal w.in-mid610.is)
-      | in-mid46 w ↦ ap Ok (of_terms _ _ w.class-is _ _ _ _) ∙ sym (ap method_or_refusal w.in-mid46.is)
-      | in-mid810 w ↦ ap Ok (of_terms _ _ w.class-is _ _ _ _) ∙ sym (ap method_or_refusal w.in-mid810.is)
-      | in-hmax45 w ↦ ap Ok (of_terms _ _ w.class-is _ _ _ _) ∙ sym (ap method_or_refusal w.in-hmax45.is)
-      | in-hmid610 w ↦ ap Ok (of_terms _ _ w.class-is _ _ _ _) ∙ sym (ap method_or_refusal w.in-hmid610.is)
-      | in-hmid46 w ↦ ap Ok (of_terms _ _ w.class-is _ _ _ _) ∙ sym (ap method_or_refusal w.in-hmid46.is)
-    ]
+pub returns-in-mid610 : goal.returns-in-mid610
+returns-in-mid610 c = ap Ok (same_row _ _ _ _ _ _ _ _ _) ∙ sym (ap method_or_refusal c.in-mid610.is)
+
+pub returns-in-mid46 : goal.returns-in-mid46
+returns-in-mid46 c = ap Ok (same_row _ _ _ _ _ _ _ _ _) ∙ sym (ap method_or_refusal c.in-mid46.is)
+
+pub returns-in-mid810 : goal.returns-in-mid810
+returns-in-mid810 c = ap Ok (same_row _ _ _ _ _ _ _ _ _) ∙ sym (ap method_or_refusal c.in-mid810.is)
+
+pub returns-in-hmax45 : goal.returns-in-hmax45
+returns-in-hmax45 c = ap Ok (c.on_holidays.ensures.value ∙ same_row _ _ _ _ _ _ _ _ _) ∙ sym (ap method_or_refusal c.in-hmax45.is)
+
+pub returns-in-hmid610 : goal.returns-in-hmid610
+returns-in-hmid610 c = ap Ok (c.on_holidays-in-hmid610.ensures.value ∙ same_row _ _ _ _ _ _ _ _ _) ∙ sym (ap method_or_refusal c.in-hmid610.is)
+
+pub returns-in-hmid46 : goal.returns-in-hmid46
+returns-in-hmid46 c = ap Ok (c.on_holidays-in-hmid46.ensures.value ∙ same_row _ _ _ _ _ _ _ _ _) ∙ sym (ap method_or_refusal c.in-hmid46.is)
