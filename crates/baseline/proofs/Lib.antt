@@ -4,4 +4,3 @@ pub mod Named
 pub mod Orders
 pub mod Ranks
 pub mod Search
-pub mod Thirds

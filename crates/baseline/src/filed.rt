@@ -3,14 +3,9 @@ ghost use Rattle.std.specs.Prelude.{◌≡◌, IfOk};
 ghost use Rattle.baseline.specs.Meaning.{WithinBounds};
 ghost use Rattle.baseline.specs.Sources.{admissible, filed_source};
 
-use crate::source::BaselineSource;
+use crate::source::{BaselineSource, HIGHEST, LOWEST};
 use load::places::{CustomerHour, is_hour};
 use refusal::Cause;
-
-// The least and the greatest baseline, in Wh.
-pub(crate) const LOWEST: i32 = -40_000_000;
-
-pub(crate) const HIGHEST: i32 = 40_000_000;
 
 // Baselines and loads in Wh, customer by customer, day by day and hour by hour.
 #[derive(Clone, Copy)]
@@ -24,7 +19,7 @@ fn admissible_baseline(baseline: i32) -> Result<i32, Cause>
     ensures value { result ≡ admissible baseline }
     ensures bounded { IfOk result WithinBounds }
 {
-    if LOWEST <= baseline && baseline <= HIGHEST {
+    if (LOWEST..=HIGHEST).contains(&baseline) {
         Ok(baseline)
     } else {
         Err(Cause::MissingLoad)
@@ -47,12 +42,8 @@ impl BaselineSource for FiledSource<'_> {
     }
 
     fn baseline(&self, asked: CustomerHour) -> Result<i32, Cause> {
-        let Some(place) = asked.place() else {
-            return Err(Cause::OutOfRange);
-        };
-        if place >= self.baselines.len() {
-            return Err(Cause::MissingLoad);
-        }
-        admissible_baseline(self.baselines[place])
+        let place = asked.place().ok_or(Cause::OutOfRange)?;
+        let baseline = self.baselines.get(place).ok_or(Cause::MissingLoad)?;
+        admissible_baseline(*baseline)
     }
 }

@@ -11,17 +11,7 @@ use load::loads::LoadRecord;
 use load::places::{CustomerHour, is_hour};
 use refusal::Cause;
 
-// One half is added to the quotient, and the fraction dropped.
-fn rounded_quotient(sum: u64, count: u64) -> u64
-    requires some { 0 < count }
-    requires few { count ≤ 10 }
-    requires bounded { sum ≤ 200000000 }
-    ensures value { result ≡ rounded_mean sum count }
-{
-    (2 * sum + count) / (2 * count)
-}
-
-// The rounded mean of at most ten loads that add up to `sum`.
+// The rounded mean of at most ten loads that add up to `sum`: one half is added to the quotient, and the fraction dropped.
 fn rounded_mean_of(sum: u64, count: u64) -> u32
     requires some { 0 < count }
     requires few { count ≤ 10 }
@@ -29,7 +19,7 @@ fn rounded_mean_of(sum: u64, count: u64) -> u32
     ensures value { result ≡ rounded_mean sum count }
     ensures bounded { result ≤ 20000000 }
 {
-    rounded_quotient(sum, count) as u32
+    ((2 * sum + count) / (2 * count)) as u32
 }
 
 // Loads, and the method by which reference days are chosen and struck.

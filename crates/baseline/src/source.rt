@@ -6,6 +6,11 @@ ghost use Rattle.baseline.specs.Meaning.{SourceMeaning, WithinBounds};
 use load::places::CustomerHour;
 use refusal::Cause;
 
+// The least and the greatest baseline, in Wh.
+pub(crate) const LOWEST: i32 = -40_000_000;
+
+pub(crate) const HIGHEST: i32 = 40_000_000;
+
 // Metered loads, profiles and baselines of some customers, in Wh.
 pub trait BaselineSource {
     ghost meaning: { Self → SourceMeaning };
