@@ -1,8 +1,6 @@
 pub mod Counts
 pub mod Left
-pub mod Means
 pub mod Named
 pub mod Orders
 pub mod Ranks
 pub mod Search
-pub mod Thirds

@@ -1,5 +1,5 @@
 -- The meanings of the ranked source, of the filed source and of the adjusting layer.
-use Rattle.std.specs.Prelude.{ℕ, ◌+◌, ◌-◌, ◌≤◌, cond, ◌&&◌, List, length, ℤ, pos, ◌+ℤ◌, ◌-ℤ◌, ◌*ℤ◌, Some, None, Ok, Err, Option, Result, int_le, nat_le, nat_lt, slice_index_or}
+use Rattle.std.specs.Prelude.{ℕ, ◌+◌, ◌-◌, cond, ◌&&◌, List, length, ℤ, pos, ◌+ℤ◌, ◌-ℤ◌, ◌*ℤ◌, Some, None, Ok, Err, Option, Result, int_le, nat_le, nat_lt, slice_index_or}
 use Rattle.std.specs.Int.{int_div_euclid, int_max, int_min}
 use Rattle.std.specs.Option.{unwrap_or}
 use Rattle.std.specs.Result.{result_ok}
@@ -63,10 +63,6 @@ abbrev pub difference : Option ℕ → Option ℕ → Option ℤ
 difference None y = None
 difference (Some x) None = None
 difference (Some x) (Some y) = Some (pos x -ℤ pos y)
-
--- three loads, none above 20,000,000 Wh
-abbrev pub ThreeLoads : ℕ × ℕ × ℕ → Type 0
-ThreeLoads x = (x.0 ≤ 20000000) × (x.1 ≤ 20000000) × (x.2 ≤ 20000000)
 
 -- the metered sum less the profile sum over the hours s - 4, s - 3 and s - 2, by the days chosen for hour s
 abbrev pub gap : SourceMeaning → ℕ → ℕ → ℕ → Option ℤ

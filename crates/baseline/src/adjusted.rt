@@ -1,11 +1,10 @@
 // The adjusting layer: baselines brought to the load in the hours before each day's first order.
 ghost use Rattle.std.specs.Prelude.{◌≡◌, ◌+◌, ◌≤◌, pos, negsuc, ◌+ℤ◌, ◌-ℤ◌, ◌*ℤ◌, ◌≤ℤ◌};
 ghost use Rattle.baseline.specs.Meaning.{WithinBounds};
-ghost use Rattle.baseline.specs.Sources.{start_on, ThreeLoads, rounded_third, clamped, gap_on, brought_by, adjusted_source};
+ghost use Rattle.baseline.specs.Sources.{start_on, rounded_third, clamped, gap_on, brought_by, adjusted_source};
 
-use crate::filed::{HIGHEST, LOWEST};
-use crate::source::BaselineSource;
-use load::places::byte_of;
+use crate::source::{BaselineSource, HIGHEST, LOWEST};
+use load::places::{CustomerHour, byte_of};
 use refusal::Cause;
 
 // An order that starts before this hour adjusts nothing.
@@ -26,95 +25,91 @@ fn start_of(starts: &[u8], day: u32) -> u32
     u32::from(byte_of(starts, day).unwrap_or(0))
 }
 
-// Twice a gap and 3: six times its third and one half.
-fn six_thirds(gap: i32) -> i32
-    requires low { negsuc 59999999 ≤ℤ gap }
-    requires high { gap ≤ℤ pos 60000000 }
-    ensures value { result ≡ gap *ℤ pos 2 +ℤ pos 3 }
-{
-    gap * 2 + 3
+// The metered loads of three hours less their profiles, in Wh.
+#[derive(Clone, Copy)]
+struct Gap {
+    wh: i32,
+    ghost low: { negsuc 59999999 ≤ℤ wh },
+    ghost high: { wh ≤ℤ pos 60000000 },
 }
 
-// The rounded third of a gap.
-fn third_of(gap: i32) -> i32
-    requires low { negsuc 59999999 ≤ℤ gap }
-    requires high { gap ≤ℤ pos 60000000 }
-    ensures value { result ≡ rounded_third gap }
-    ensures low { negsuc 19999999 ≤ℤ result }
-    ensures high { result ≤ℤ pos 20000000 }
-{
-    six_thirds(gap).div_euclid(6)
-}
+impl Gap {
+    fn between(metered: u32, profiles: u32) -> Gap
+        requires metered { metered ≤ 60000000 }
+        requires profiles { profiles ≤ 60000000 }
+        ensures value { result.wh ≡ pos metered -ℤ pos profiles }
+    {
+        Gap {
+            wh: metered as i32 - profiles as i32,
+        }
+    }
 
-// The metered loads of three hours less their profiles.
-fn gap_between(loads: (u32, u32, u32), profiles: (u32, u32, u32)) -> i32
-    requires loads { ThreeLoads loads }
-    requires profiles { ThreeLoads profiles }
-    ensures value { result ≡ pos (loads.0 + loads.1 + loads.2) -ℤ pos (profiles.0 + profiles.1 + profiles.2) }
-    ensures low { negsuc 59999999 ≤ℤ result }
-    ensures high { result ≤ℤ pos 60000000 }
-{
-    (loads.0 + loads.1 + loads.2) as i32 - (profiles.0 + profiles.1 + profiles.2) as i32
-}
+    // A third of the gap: one half is added, then the fraction goes down, below nought too.
+    fn third(self) -> i32
+        ensures value { result ≡ rounded_third self.wh }
+        ensures low { negsuc 19999999 ≤ℤ result }
+        ensures high { result ≤ℤ pos 20000000 }
+    {
+        (self.wh * 2 + 3).div_euclid(6)
+    }
 
-// A baseline with the rounded third of a gap added, brought within the bounds.
-fn adjusted_by(baseline: i32, gap: i32) -> i32
-    requires baseline { WithinBounds baseline }
-    requires low { negsuc 59999999 ≤ℤ gap }
-    requires high { gap ≤ℤ pos 60000000 }
-    ensures value { result ≡ clamped (baseline +ℤ rounded_third gap) }
-    ensures bounded { WithinBounds result }
-{
-    (baseline + third_of(gap)).clamp(LOWEST, HIGHEST)
+    // A baseline with the rounded third added, brought within the bounds.
+    fn added_to(self, baseline: i32) -> i32
+        requires baseline { WithinBounds baseline }
+        ensures value { result ≡ clamped (baseline +ℤ rounded_third self.wh) }
+        ensures bounded { WithinBounds result }
+    {
+        (baseline + self.third()).clamp(LOWEST, HIGHEST)
+    }
 }
 
 impl<S: BaselineSource> Adjusted<'_, S> {
     // A customer's baseline of a day, adjusted if every load and profile before the day's first order exists.
-    fn brought(&self, customer: u32, day: u32, baseline: i32) -> i32
+    fn brought(&self, asked: CustomerHour, baseline: i32) -> i32
         requires baseline { WithinBounds baseline }
-        ensures value { result ≡ brought_by baseline (gap_on (S.meaning self.now.below) self.now.starts.now customer day) }
+        ensures value { result ≡ brought_by baseline (gap_on (S.meaning self.now.below) self.now.starts.now asked.customer asked.day) }
         ensures bounded { WithinBounds result }
     {
-        let start = start_of(self.starts, day);
+        let start = start_of(self.starts, asked.day);
         if start < FIRST_ADJUSTED {
             return baseline;
         }
-        let Some(load_a) = self.below.metered(customer, day, start - 4) else {
+        let Some(load_a) = self.below.metered(asked.in_hour(start - 4)) else {
             return baseline;
         };
-        let Some(load_b) = self.below.metered(customer, day, start - 3) else {
+        let Some(load_b) = self.below.metered(asked.in_hour(start - 3)) else {
             return baseline;
         };
-        let Some(load_c) = self.below.metered(customer, day, start - 2) else {
+        let Some(load_c) = self.below.metered(asked.in_hour(start - 2)) else {
             return baseline;
         };
-        let Ok(profile_a) = self.below.profile(customer, day, start, start - 4) else {
+        let Ok(profile_a) = self.below.profile(asked.in_hour(start), start - 4) else {
             return baseline;
         };
-        let Ok(profile_b) = self.below.profile(customer, day, start, start - 3) else {
+        let Ok(profile_b) = self.below.profile(asked.in_hour(start), start - 3) else {
             return baseline;
         };
-        let Ok(profile_c) = self.below.profile(customer, day, start, start - 2) else {
+        let Ok(profile_c) = self.below.profile(asked.in_hour(start), start - 2) else {
             return baseline;
         };
-        let gap = gap_between((load_a, load_b, load_c), (profile_a, profile_b, profile_c));
-        adjusted_by(baseline, gap)
+        let gap = Gap::between(load_a + load_b + load_c, profile_a + profile_b + profile_c);
+        gap.added_to(baseline)
     }
 }
 
 impl<S: BaselineSource> BaselineSource for Adjusted<'_, S> {
     ghost meaning = { λ x. adjusted_source x.starts.now (S.BaselineSource.meaning x.below) };
 
-    fn metered(&self, customer: u32, day: u32, hour: u32) -> Option<u32> {
-        self.below.metered(customer, day, hour)
+    fn metered(&self, asked: CustomerHour) -> Option<u32> {
+        self.below.metered(asked)
     }
 
-    fn profile(&self, customer: u32, day: u32, hour: u32, at: u32) -> Result<u32, Cause> {
-        self.below.profile(customer, day, hour, at)
+    fn profile(&self, asked: CustomerHour, at: u32) -> Result<u32, Cause> {
+        self.below.profile(asked, at)
     }
 
-    fn baseline(&self, customer: u32, day: u32, hour: u32) -> Result<i32, Cause> {
-        let baseline = self.below.baseline(customer, day, hour)?;
-        Ok(self.brought(customer, day, baseline))
+    fn baseline(&self, asked: CustomerHour) -> Result<i32, Cause> {
+        let baseline = self.below.baseline(asked)?;
+        Ok(self.brought(asked, baseline))
     }
 }
