@@ -37,6 +37,14 @@ pub struct Terms {
     pub mgp: u32,
 }
 
+// One hour of one resource, and what it is settled by.
+#[derive(Clone, Copy)]
+pub struct ResourceHour {
+    pub portfolio: Portfolio,
+    pub slot: Slot,
+    pub terms: Terms,
+}
+
 // The figures of one resource in one hour: SR, DR, DLR and SLR in Wh, pay and fine in won.
 #[derive(Clone, Copy, PartialEq, Eq, Debug)]
 pub struct Line {
