@@ -1,5 +1,4 @@
 // Values within the bounds that a line's figures rest on.
-ghost use Rattle.std.specs.Prelude.{◌≤◌};
 ghost use Rattle.settlement.specs.Bounds.{Limited};
 
 use crate::terms::Terms;
@@ -8,7 +7,7 @@ use std::marker::Model;
 // Terms within their limits.
 #[derive(Clone, Copy)]
 pub(crate) struct LimitedTerms {
-    pub terms: Terms,
+    pub(crate) terms: Terms,
     ghost limited: { Limited terms },
 }
 

@@ -3,7 +3,7 @@ ghost use Rattle.std.specs.Prelude.{◌≡◌, ◌≤◌, min};
 ghost use Rattle.settlement.specs.Figures.{at_least_nought, dlr_of, fined_of, line_of, order_pay_of, plan_pay_of, slr_of, worth as its_worth};
 
 use crate::bounds::{LimitedTerms, Load, Reduction};
-use crate::terms::Line;
+use crate::terms::{Line, Terms};
 
 // What a price in hundredths of a won per kWh is divided by, for won per Wh.
 const PRICE_UNIT: u64 = 100_000;
@@ -76,11 +76,8 @@ impl LimitedTerms {
     fn order_pay(self, dlr: Load) -> i32
         ensures value { result ≡ order_pay_of self.terms dlr }
     {
-        let price = if self.terms.test {
-            self.terms.smp
-        } else {
-            self.terms.mgp
-        };
+        let Terms { test, smp, mgp, .. } = self.terms;
+        let price = if test { smp } else { mgp };
         dlr.worth(price) as i32
     }
 

@@ -7,6 +7,7 @@ ghost use Rattle.settlement.specs.Settle.{mandatory_reduction, scheduled_reducti
 use crate::bounds::Reduction;
 use crate::terms::{ResourceHour, Slot};
 use baseline::source::BaselineSource;
+use load::places::CustomerHour;
 use refusal::{Cause, NoFigure};
 
 // The mark of a customer that takes part.
@@ -19,15 +20,13 @@ fn takes_part(mark: u8) -> bool
     mark == TAKES_PART
 }
 
-// By how much one customer's load lies below the baseline, in Wh; the baseline is asked first.
-fn cut_of<S: BaselineSource>(source: &S, customer: u32, slot: Slot) -> Result<i64, Cause>
-    ensures value { result ≡ cut (S.meaning source.now) customer slot.day slot.hour }
-    ensures bounded { IfOk result (λ z. Within 60000000 z × (customer < 16)) }
+// By how much a customer's load lies below the baseline, in Wh; the baseline is asked first.
+fn cut_of<S: BaselineSource>(source: &S, asked: CustomerHour) -> Result<i64, Cause>
+    ensures value { result ≡ cut (S.meaning source.now) asked.customer asked.day asked.hour }
+    ensures bounded { IfOk result (λ z. Within 60000000 z × (asked.customer < 16)) }
 {
-    let baseline = source.baseline(customer, slot.day, slot.hour)?;
-    let load = source
-        .metered(customer, slot.day, slot.hour)
-        .ok_or(Cause::MissingLoad)?;
+    let baseline = source.baseline(asked)?;
+    let load = source.metered(asked).ok_or(Cause::MissingLoad)?;
     Ok(i64::from(baseline) - i64::from(load))
 }
 
@@ -35,18 +34,18 @@ fn cut_of<S: BaselineSource>(source: &S, customer: u32, slot: Slot) -> Result<i6
 fn added<S: BaselineSource>(
     sum: i64,
     source: &S,
-    customer: u32,
     slot: Slot,
+    customer: u32,
 ) -> Result<i64, NoFigure>
     requires { Within (60000000 * customer) sum }
     ensures value { result ≡ more (Ok sum) customer (cut (S.meaning source.now) customer slot.day slot.hour) }
     ensures bounded { IfOk result (λ z. Within (60000000 * (customer + 1)) z × (customer < 16)) }
 {
-    let cut = cut_of(source, customer, slot).map_err(|cause| NoFigure { customer, cause })?;
+    let cut = cut_of(source, slot.of(customer)).map_err(|cause| NoFigure { customer, cause })?;
     Ok(sum + cut)
 }
 
-// Stays: the scheduled reduction goes over the marks with their places, the mandatory one over all customers; each adds by `added`.
+// Stays: two functions, as the scheduled one goes over the marks by their places; both add by `added`.
 impl ResourceHour {
     // SR: the cuts of the customers that take part, added up, or the first of them with a cause; without a plan nothing is asked.
     pub(crate) fn scheduled_reduction<S: BaselineSource>(
@@ -56,16 +55,16 @@ impl ResourceHour {
     ) -> Result<Reduction, NoFigure>
         ensures value { result ≡ scheduled_reduction (S.meaning source.now) marks.now self.now.portfolio self.now.slot self.now.terms }
     {
-        let mut sum: i64 = 0;
         if self.terms.plan == 0 {
-            return Ok(Reduction { wh: sum });
+            return Ok(Reduction { wh: 0 });
         }
         let marks = &marks[..marks.len().min(self.portfolio.customers as usize)];
+        let mut sum = 0;
         for (place, mark) in marks.iter().enumerate() {
             if !takes_part(*mark) {
                 continue;
             }
-            sum = added(sum, source, place as u32, self.slot)?;
+            sum = added(sum, source, self.slot, place as u32)?;
         }
         Ok(Reduction { wh: sum })
     }
@@ -77,12 +76,12 @@ impl ResourceHour {
     ) -> Result<Reduction, NoFigure>
         ensures value { result ≡ mandatory_reduction (S.meaning source.now) self.now.portfolio self.now.slot self.now.terms }
     {
-        let mut sum: i64 = 0;
         if self.terms.order == 0 {
-            return Ok(Reduction { wh: sum });
+            return Ok(Reduction { wh: 0 });
         }
+        let mut sum = 0;
         for customer in 0..self.portfolio.customers {
-            sum = added(sum, source, customer, self.slot)?;
+            sum = added(sum, source, self.slot, customer)?;
         }
         Ok(Reduction { wh: sum })
     }

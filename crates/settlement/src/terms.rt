@@ -1,5 +1,8 @@
 // The plain values of a settling.
+ghost use Rattle.std.specs.Prelude.{◌≡◌};
+
 use load::loads::DayClass;
+use load::places::CustomerHour;
 
 // What kind of resource it is.
 #[derive(Clone, Copy, PartialEq, Eq, Debug)]
@@ -24,6 +27,21 @@ pub struct Slot {
     pub class: DayClass,
     pub day: u32,
     pub hour: u32,
+}
+
+impl Slot {
+    // The hour of a customer that a source is asked about.
+    pub fn of(self, customer: u32) -> CustomerHour
+        ensures customer { result.customer ≡ customer }
+        ensures day { result.day ≡ self.day }
+        ensures hour { result.hour ≡ self.hour }
+    {
+        CustomerHour {
+            customer,
+            day: self.day,
+            hour: self.hour,
+        }
+    }
 }
 
 // What an hour is settled by: plan and order in Wh, 0 for none; SMP and MGP in hundredths of a won per kWh.
