@@ -3,8 +3,8 @@ use crate::steady::Steady;
 use load::loads::DayClass;
 use refusal::{Cause, NoFigure, Refusal};
 use settlement::hours::takes_order;
-use settlement::settle::settle_line;
-use settlement::terms::{Kind, Line, Portfolio, Slot, Terms};
+use settlement::kinds::UnknownKind;
+use settlement::terms::{Kind, Line, Portfolio, ResourceHour, Slot, Terms};
 use std::test::Fail;
 
 // Hour 11 of a workday in May, day 5 of the sources.
@@ -25,6 +25,19 @@ const NOTHING: Terms = Terms {
     mgp: 0,
 };
 
+// The line of no plan and no order.
+const NO_LINE: Line = Line {
+    plan: 0,
+    order: 0,
+    sr: 0,
+    dr: 0,
+    dlr: 0,
+    slr: 0,
+    plan_pay: 0,
+    order_pay: 0,
+    fined: 0,
+};
+
 // A source in which every customer has a baseline and a load.
 fn source(baseline: i32, load: u32) -> Steady {
     Steady {
@@ -35,11 +48,15 @@ fn source(baseline: i32, load: u32) -> Steady {
     }
 }
 
-// A standard resource with a count of customers.
-fn standard(customers: u32) -> Portfolio {
-    Portfolio {
-        kind: Kind::Standard,
-        customers,
+// An hour of a standard resource with a count of customers, settled by some terms.
+fn standard(customers: u32, slot: Slot, terms: Terms) -> ResourceHour {
+    ResourceHour {
+        portfolio: Portfolio {
+            kind: Kind::Standard,
+            customers,
+        },
+        slot,
+        terms,
     }
 }
 
@@ -55,7 +72,7 @@ fn number_of(answer: Result<Line, Refusal>) -> u32 {
 fn refused(hour: u32, terms: Terms) -> u32 {
     let level = source(700, 700);
     let slot = Slot { hour, ..SLOT };
-    number_of(settle_line(&level, &level, &[1], standard(1), slot, terms))
+    number_of(standard(1, slot, terms).settle(&level, &level, &[1]))
 }
 
 #[test]
@@ -81,26 +98,22 @@ fn an_order_is_paid_up_to_six_fifths(rt: HostRuntime) {
         (emergency, 1_300_000, 195_000),
         (test, 1_200_000, 120_000),
     ] {
-        let line = settle_line(&idle, &cut, &[1], standard(1), SLOT, terms);
-        let want = Line {
-            plan: 0,
+        let line = Line {
             order: 1_000_000,
-            sr: 0,
             dr: 1_300_000,
             dlr,
-            slr: 0,
-            plan_pay: 0,
             order_pay,
-            fined: 0,
+            ..NO_LINE
         };
-        assert_eq!(rt; line, Ok(want));
+        assert_eq!(rt;
+            standard(1, SLOT, terms).settle(&idle, &cut, &[1]),
+            Ok(line)
+        );
     }
 }
 
 #[test]
 fn a_plan_is_paid_after_the_order_and_fined_before_it(rt: HostRuntime) {
-    let scheduled = source(1_300_000, 0);
-    let mandatory = source(1_000_000, 0);
     let both = Terms {
         plan: 500_000,
         order: 1_000_000,
@@ -108,7 +121,7 @@ fn a_plan_is_paid_after_the_order_and_fined_before_it(rt: HostRuntime) {
         mgp: 15_000,
         ..NOTHING
     };
-    let line = Line {
+    let paid = Line {
         plan: 500_000,
         order: 1_000_000,
         sr: 1_300_000,
@@ -119,31 +132,27 @@ fn a_plan_is_paid_after_the_order_and_fined_before_it(rt: HostRuntime) {
         order_pay: 150_000,
         fined: 0,
     };
-    assert_eq!(rt;
-        settle_line(&scheduled, &mandatory, &[1], standard(1), SLOT, both),
-        Ok(line)
-    );
-    let above = source(0, 5);
     let small = Terms {
         plan: 100,
         smp: 12_050,
         ..NOTHING
     };
-    let line = Line {
+    let fined = Line {
         plan: 100,
-        order: 0,
         sr: -5,
-        dr: 0,
-        dlr: 0,
-        slr: 0,
-        plan_pay: 0,
-        order_pay: 0,
         fined: 12,
+        ..NO_LINE
     };
-    assert_eq!(rt;
-        settle_line(&above, &above, &[1], standard(1), SLOT, small),
-        Ok(line)
-    );
+    let above = source(0, 5);
+    for (scheduled, mandatory, terms, line) in [
+        (source(1_300_000, 0), source(1_000_000, 0), both, paid),
+        (above, above, small, fined),
+    ] {
+        assert_eq!(rt;
+            standard(1, SLOT, terms).settle(&scheduled, &mandatory, &[1]),
+            Ok(line)
+        );
+    }
 }
 
 #[test]
@@ -177,88 +186,47 @@ fn orders_are_taken_in_their_hours(rt: HostRuntime) {
         (11, 17, true),
         (12, 11, false),
     ] {
-        assert_eq!(rt;
-            takes_order(Kind::StandardHoliday, DayClass::Holiday, month, hour),
-            takes
-        );
-        assert_eq!(rt;
-            takes_order(Kind::SmallMediumHoliday, DayClass::Holiday, month, hour),
-            takes
-        );
+        for kind in [Kind::StandardHoliday, Kind::SmallMediumHoliday] {
+            assert_eq!(rt; takes_order(kind, DayClass::Holiday, month, hour), takes);
+        }
     }
-    assert!(rt; !takes_order(Kind::SmallMedium, DayClass::Holiday, 3, 11));
-    assert!(rt; !takes_order(Kind::StandardHoliday, DayClass::Workday, 3, 11));
-    assert!(rt; !takes_order(Kind::Standard, DayClass::Neither, 3, 11));
+    for (kind, class) in [
+        (Kind::SmallMedium, DayClass::Holiday),
+        (Kind::StandardHoliday, DayClass::Workday),
+        (Kind::Standard, DayClass::Neither),
+    ] {
+        assert!(rt; !takes_order(kind, class, 3, 11));
+    }
 }
 
 #[test]
 fn kinds_go_by_number(rt: HostRuntime) {
-    assert_eq!(rt; Kind::numbered(0), None);
-    assert_eq!(rt; Kind::numbered(1), Some(Kind::Standard));
-    assert_eq!(rt; Kind::numbered(4), Some(Kind::SmallMediumHoliday));
-    assert_eq!(rt; Kind::numbered(5), None);
+    for (number, kind) in [
+        (0, Err(UnknownKind(0))),
+        (1, Ok(Kind::Standard)),
+        (4, Ok(Kind::SmallMediumHoliday)),
+        (5, Err(UnknownKind(5))),
+    ] {
+        assert_eq!(rt; Kind::try_from(number), kind);
+    }
 }
 
 #[test]
 fn limits_hold_at_and_one_past(rt: HostRuntime) {
     let one = Terms { plan: 1, ..NOTHING };
+    let plan = |plan| Terms { plan, ..one };
+    let order = |order| Terms { order, ..one };
+    let smp = |smp| Terms { smp, ..one };
+    let mgp = |mgp| Terms { mgp, ..one };
     for (terms, number) in [
-        (
-            Terms {
-                plan: 640_000_000,
-                ..one
-            },
-            0,
-        ),
-        (
-            Terms {
-                plan: 640_000_001,
-                ..one
-            },
-            22,
-        ),
-        (
-            Terms {
-                order: 500_000_000,
-                ..one
-            },
-            0,
-        ),
-        (
-            Terms {
-                order: 500_000_001,
-                ..one
-            },
-            22,
-        ),
-        (
-            Terms {
-                smp: 200_000,
-                ..one
-            },
-            0,
-        ),
-        (
-            Terms {
-                smp: 200_001,
-                ..one
-            },
-            22,
-        ),
-        (
-            Terms {
-                mgp: 200_000,
-                ..one
-            },
-            0,
-        ),
-        (
-            Terms {
-                mgp: 200_001,
-                ..one
-            },
-            22,
-        ),
+        (plan(640_000_000), 0),
+        (plan(640_000_001), 22),
+        (order(500_000_000), 0),
+        (order(500_000_001), 22),
+        (smp(200_000), 0),
+        (smp(200_001), 22),
+        (mgp(200_000), 0),
+        (mgp(200_001), 22),
     ] {
         assert_eq!(rt; refused(11, terms), number);
     }
@@ -287,7 +255,7 @@ fn refusals_come_in_order(rt: HostRuntime) {
         (SLOT, ordered, 25),
         (SLOT, Terms { plan: 0, ..ordered }, 26),
     ] {
-        let answer = settle_line(&lacking, &lacking, &[1], standard(1), slot, terms);
+        let answer = standard(1, slot, terms).settle(&lacking, &lacking, &[1]);
         assert_eq!(rt; number_of(answer), number);
     }
 }
@@ -304,9 +272,8 @@ fn marks_tell_who_takes_part(rt: HostRuntime) -> Result<(), Fail> {
     let longer: &[u8] = &[1, 1, 1, 1];
     let other: &[u8] = &[2, 0, 1];
     for (marks, sr) in [(shorter, 100), (longer, 300), (other, 100)] {
-        let line = settle_line(&cut, &cut, marks, standard(3), SLOT, both)?;
-        assert_eq!(rt; line.sr, sr);
-        assert_eq!(rt; line.dr, 300);
+        let line = standard(3, SLOT, both).settle(&cut, &cut, marks)?;
+        assert_eq!(rt; (line.sr, line.dr), (sr, 300));
     }
     Ok(())
 }
@@ -319,7 +286,6 @@ fn the_first_cause_is_told(rt: HostRuntime) -> Result<(), Fail> {
         order: 1,
         ..NOTHING
     };
-    let marks = [1; 17];
     let no_load = Steady {
         with_load: 3,
         ..whole
@@ -334,17 +300,16 @@ fn the_first_cause_is_told(rt: HostRuntime) -> Result<(), Fail> {
         (whole, 17, 16, Cause::OutOfRange),
     ] {
         let lacking = NoFigure { customer, cause };
-        let resource = standard(customers);
         assert_eq!(rt;
-            settle_line(&source, &whole, &marks, resource, SLOT, plan),
+            standard(customers, SLOT, plan).settle(&source, &whole, &[1; 17]),
             Err(Refusal::Scheduled(lacking))
         );
         assert_eq!(rt;
-            settle_line(&whole, &source, &[], resource, SLOT, order),
+            standard(customers, SLOT, order).settle(&whole, &source, &[]),
             Err(Refusal::Mandatory(lacking))
         );
     }
-    let line = settle_line(&no_load, &no_load, &[1, 1, 1, 0], standard(4), SLOT, plan)?;
+    let line = standard(4, SLOT, plan).settle(&no_load, &no_load, &[1, 1, 1, 0])?;
     assert_eq!(rt; line.sr, 300);
     Ok(())
 }

@@ -2,7 +2,25 @@
 use load::interval::IntervalRecord;
 use load::left_out::LeftOut;
 use load::loads::{DayClass, LoadRecord};
+use load::places::CustomerHour;
 use load::register::RegisterRecord;
+use std::process::Abort;
+
+// That a record has these loads, each by customer, day and hour.
+fn has_loads<R: LoadRecord>(
+    rt: &impl Abort,
+    record: &R,
+    loads: &[(u32, u32, u32, Option<u32>, &str)],
+) {
+    for &(customer, day, hour, load, why) in loads {
+        let asked = CustomerHour {
+            customer,
+            day,
+            hour,
+        };
+        assert_eq!(rt; record.load(asked), load, "{why}");
+    }
+}
 
 #[test]
 fn interval_loads(rt: HostRuntime) {
@@ -10,14 +28,20 @@ fn interval_loads(rt: HostRuntime) {
         loads: &[20_000_000, 20_000_001, 0],
         classes: &[],
     };
-    assert_eq!(rt; record.load(0, 0, 1), Some(20_000_000));
-    assert_eq!(rt; record.load(0, 0, 2), None);
-    assert_eq!(rt; record.load(0, 0, 3), Some(0));
-    assert_eq!(rt; record.load(0, 0, 4), None, "past the list's end");
-    assert_eq!(rt; record.load(0, 0, 0), None);
-    assert_eq!(rt; record.load(0, 96, 1), None);
-    assert_eq!(rt; record.load(16, 0, 1), None);
-    assert_eq!(rt; record.load(4294967295, 4294967295, 4294967295), None);
+    has_loads(
+        &rt,
+        &record,
+        &[
+            (0, 0, 1, Some(20_000_000), "20,000,000"),
+            (0, 0, 2, None, "20,000,001"),
+            (0, 0, 3, Some(0), "nought"),
+            (0, 0, 4, None, "past the list's end"),
+            (0, 0, 0, None, "no hour 0"),
+            (0, 96, 1, None, "no day 96"),
+            (16, 0, 1, None, "no customer 16"),
+            (4294967295, 4294967295, 4294967295, None, "far out"),
+        ],
+    );
 }
 
 #[test]
@@ -29,10 +53,16 @@ fn interval_places(rt: HostRuntime) {
         loads: &loads,
         classes: &[],
     };
-    assert_eq!(rt; record.load(0, 2, 12), Some(1), "day 2, hour 12");
-    assert_eq!(rt; record.load(1, 0, 1), Some(2), "customer 1, day 0, hour 1");
-    assert_eq!(rt; record.load(0, 95, 24), Some(7));
-    assert_eq!(rt; record.load(0, 0, 25), None);
+    has_loads(
+        &rt,
+        &record,
+        &[
+            (0, 2, 12, Some(1), "day 2, hour 12"),
+            (1, 0, 1, Some(2), "customer 1, day 0, hour 1"),
+            (0, 95, 24, Some(7), "the first customer's last hour"),
+            (0, 0, 25, None, "no hour 25"),
+        ],
+    );
 }
 
 #[test]
@@ -41,13 +71,19 @@ fn register_loads(rt: HostRuntime) {
         readings: &[999_999_990, 5, 20_000_005, 40_000_006, 1_000_000_000, 7, 7],
         classes: &[],
     };
-    assert_eq!(rt; record.load(0, 0, 1), Some(15), "the register goes round");
-    assert_eq!(rt; record.load(0, 0, 2), Some(20_000_000));
-    assert_eq!(rt; record.load(0, 0, 3), None, "20,000,001");
-    assert_eq!(rt; record.load(0, 0, 4), None, "no such reading");
-    assert_eq!(rt; record.load(0, 0, 5), None, "no such reading before");
-    assert_eq!(rt; record.load(0, 0, 6), Some(0));
-    assert_eq!(rt; record.load(0, 0, 7), None, "past the list's end");
+    has_loads(
+        &rt,
+        &record,
+        &[
+            (0, 0, 1, Some(15), "the register goes round"),
+            (0, 0, 2, Some(20_000_000), "20,000,000"),
+            (0, 0, 3, None, "20,000,001"),
+            (0, 0, 4, None, "no such reading"),
+            (0, 0, 5, None, "no such reading before"),
+            (0, 0, 6, Some(0), "nought"),
+            (0, 0, 7, None, "past the list's end"),
+        ],
+    );
 }
 
 #[test]
@@ -59,12 +95,14 @@ fn register_places(rt: HostRuntime) {
         readings: &readings,
         classes: &[],
     };
-    assert_eq!(rt; record.load(0, 1, 1), Some(3), "day 1, hour 1");
-    assert_eq!(rt; record.load(1, 0, 1), Some(4), "customer 1, day 0, hour 1");
-    assert_eq!(rt;
-        record.load(0, 95, 24),
-        Some(0),
-        "the first customer's last reading"
+    has_loads(
+        &rt,
+        &record,
+        &[
+            (0, 1, 1, Some(3), "day 1, hour 1"),
+            (1, 0, 1, Some(4), "customer 1, day 0, hour 1"),
+            (0, 95, 24, Some(0), "the first customer's last reading"),
+        ],
     );
 }
 
@@ -74,13 +112,17 @@ fn classes_and_days(rt: HostRuntime) {
         loads: &[],
         classes: &[0, 1, 2],
     };
-    assert_eq!(rt; record.class(0), DayClass::Workday);
-    assert_eq!(rt; record.class(1), DayClass::Holiday);
-    assert_eq!(rt; record.class(2), DayClass::Neither);
-    assert_eq!(rt; record.class(3), DayClass::Neither, "past the list's end");
-    assert!(rt; record.stands(15, 95));
-    assert!(rt; !record.stands(15, 96));
-    assert!(rt; !record.stands(16, 95));
+    for (day, class) in [
+        (0, DayClass::Workday),
+        (1, DayClass::Holiday),
+        (2, DayClass::Neither),
+        (3, DayClass::Neither),
+    ] {
+        assert_eq!(rt; record.class(day), class);
+    }
+    for (customer, day, stands) in [(15, 95, true), (15, 96, false), (16, 95, false)] {
+        assert_eq!(rt; record.stands(customer, day), stands);
+    }
     let long = IntervalRecord {
         loads: &[],
         classes: &[0; 97],
@@ -99,14 +141,15 @@ fn left_out_days(rt: HostRuntime) {
         below: &below,
         marks: &[1, 0, 2],
     };
-    assert!(rt; !record.stands(0, 0));
-    assert!(rt; record.stands(0, 1));
-    assert!(rt;
-        record.stands(0, 2),
-        "another byte does not leave a day out"
-    );
-    assert!(rt; record.stands(0, 3), "past the table's end");
-    assert!(rt; !record.stands(0, 96));
-    assert_eq!(rt; record.load(0, 0, 1), Some(5), "loads pass");
+    for (day, stands, why) in [
+        (0, false, "left out"),
+        (1, true, "not left out"),
+        (2, true, "another byte does not leave a day out"),
+        (3, true, "past the table's end"),
+        (96, false, "no day 96"),
+    ] {
+        assert_eq!(rt; record.stands(0, day), stands, "{why}");
+    }
+    has_loads(&rt, &record, &[(0, 0, 1, Some(5), "loads pass")]);
     assert_eq!(rt; record.class(0), DayClass::Holiday, "classes pass");
 }

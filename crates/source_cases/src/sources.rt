@@ -6,11 +6,21 @@ use baseline::ranked::Ranked;
 use baseline::source::BaselineSource;
 use load::interval::IntervalRecord;
 use load::left_out::LeftOut;
+use load::places::CustomerHour;
 use refusal::{Cause, Refusal};
 use std::test::Fail;
 
 // A load that counts as missing.
 const MISSING: u32 = 4_294_967_295;
+
+// An hour of a day of a customer.
+fn at(customer: u32, day: u32, hour: u32) -> CustomerHour {
+    CustomerHour {
+        customer,
+        day,
+        hour,
+    }
+}
 
 // Loads of customer 0 in one hour, day by day from day 0 on; every other hour is missing.
 fn put_hour(loads: &mut [u32; 600], hour: usize, days: &[u32]) {
@@ -21,55 +31,49 @@ fn put_hour(loads: &mut [u32; 600], hour: usize, days: &[u32]) {
     }
 }
 
+// A record of loads on workdays.
+fn on_workdays(loads: &[u32; 600]) -> IntervalRecord<'_> {
+    IntervalRecord {
+        loads,
+        classes: &[0; 96],
+    }
+}
+
 // The baseline in hour 11 on the day after these workdays.
 fn baseline_after(text: &str, days: &[u32]) -> Result<Result<i32, Cause>, Refusal> {
     let mut loads = [MISSING; 600];
     put_hour(&mut loads, 11, days);
-    let record = IntervalRecord {
-        loads: &loads,
-        classes: &[0; 96],
-    };
-    let source = Ranked::new(record, Method::named(text)?);
-    Ok(source.baseline(0, (days.len() % 96) as u32, 11))
+    let source = Ranked::new(on_workdays(&loads), text.parse::<Method>()?);
+    Ok(source.baseline(at(0, (days.len() % 96) as u32, 11)))
 }
 
 #[test]
-fn methods_by_their_texts(rt: HostRuntime) -> Result<(), Fail> {
+fn methods_by_their_texts(rt: HostRuntime) {
     for text in [
         "max45", "mid610", "mid46", "mid810", "hmax45", "hmid610", "hmid46",
     ] {
-        assert!(rt; Method::named(text).is_ok());
+        assert!(rt; text.parse::<Method>().is_ok());
     }
     for text in ["", "max46", "Max45", "max45 ", "hmid810", "mid61"] {
-        match Method::named(text) {
-            Ok(_) => return Err(Fail::new("taken")),
-            Err(refusal) => assert_eq!(rt; refusal.number(), 8),
-        }
+        let refusal = text.parse::<Method>().err();
+        assert_eq!(rt; refusal.map(|refusal| refusal.number()), Some(8));
     }
-    Ok(())
 }
 
 #[test]
 fn worked_baselines(rt: HostRuntime) -> Result<(), Fail> {
-    assert_eq!(rt; baseline_after("max45", &[10, 20, 30, 40, 50])?, Ok(35));
-    assert_eq!(rt; baseline_after("max45", &[1, 2, 2, 2, 1])?, Ok(2));
-    assert_eq!(rt; baseline_after("mid46", &[10, 20, 30, 40, 50, 61])?, Ok(35));
-    assert_eq!(rt;
-        baseline_after("mid610", &[1, 2, 3, 4, 5, 6, 7, 8, 9, 10])?,
-        Ok(6)
-    );
-    assert_eq!(rt;
-        baseline_after("mid810", &[1, 2, 3, 4, 5, 6, 7, 8, 9, 30])?,
-        Ok(6)
-    );
-    assert_eq!(rt;
-        baseline_after("max45", &[10, 20, 30, 40])?,
-        Err(Cause::TooFewDays)
-    );
-    assert_eq!(rt;
-        baseline_after("hmax45", &[10, 20, 30, 40, 50])?,
-        Err(Cause::TooFewDays)
-    );
+    let cases: [(&str, &[u32], Result<i32, Cause>); 7] = [
+        ("max45", &[10, 20, 30, 40, 50], Ok(35)),
+        ("max45", &[1, 2, 2, 2, 1], Ok(2)),
+        ("mid46", &[10, 20, 30, 40, 50, 61], Ok(35)),
+        ("mid610", &[1, 2, 3, 4, 5, 6, 7, 8, 9, 10], Ok(6)),
+        ("mid810", &[1, 2, 3, 4, 5, 6, 7, 8, 9, 30], Ok(6)),
+        ("max45", &[10, 20, 30, 40], Err(Cause::TooFewDays)),
+        ("hmax45", &[10, 20, 30, 40, 50], Err(Cause::TooFewDays)),
+    ];
+    for (text, days, baseline) in cases {
+        assert_eq!(rt; baseline_after(text, days)?, baseline);
+    }
     Ok(())
 }
 
@@ -77,24 +81,19 @@ fn worked_baselines(rt: HostRuntime) -> Result<(), Fail> {
 fn reach_is_spent_by_days_that_do_not_stand(rt: HostRuntime) -> Result<(), Fail> {
     let mut loads = [MISSING; 600];
     put_hour(&mut loads, 11, &[10; 15]);
-    let record = IntervalRecord {
-        loads: &loads,
-        classes: &[0; 96],
-    };
-    let five = LeftOut {
-        below: record,
-        marks: &[0, 0, 0, 0, 0, 0, 0, 0, 0, 0, 1, 1, 1, 1, 1],
-    };
-    let six = LeftOut {
-        below: record,
-        marks: &[0, 0, 0, 0, 0, 0, 0, 0, 0, 1, 1, 1, 1, 1, 1],
-    };
-    let max45 = Method::named("max45")?;
-    assert_eq!(rt; Ranked::new(five, max45).baseline(0, 15, 11), Ok(10));
-    assert_eq!(rt;
-        Ranked::new(six, max45).baseline(0, 15, 11),
-        Err(Cause::TooFewDays)
-    );
+    let max45 = "max45".parse::<Method>()?;
+    let five = [0, 0, 0, 0, 0, 0, 0, 0, 0, 0, 1, 1, 1, 1, 1];
+    let six = [0, 0, 0, 0, 0, 0, 0, 0, 0, 1, 1, 1, 1, 1, 1];
+    for (marks, baseline) in [(&five, Ok(10)), (&six, Err(Cause::TooFewDays))] {
+        let record = LeftOut {
+            below: on_workdays(&loads),
+            marks,
+        };
+        assert_eq!(rt;
+            Ranked::new(record, max45).baseline(at(0, 15, 11)),
+            baseline
+        );
+    }
     Ok(())
 }
 
@@ -105,28 +104,26 @@ fn a_profile_keeps_the_days_of_its_first_hour(rt: HostRuntime) -> Result<(), Fai
     put_hour(&mut loads, 12, &[100, 8, 8, 8, 8, 1000]);
     put_hour(&mut loads, 13, &[100, 8, 8, MISSING, 8]);
     put_hour(&mut loads, 14, &[MISSING, 8, 8, 8, 9]);
-    let record = IntervalRecord {
-        loads: &loads,
-        classes: &[0; 96],
-    };
-    let source = Ranked::new(record, Method::named("max45")?);
-    assert_eq!(rt; source.profile(0, 6, 11, 12), Ok(8));
-    assert_eq!(rt;
-        source.profile(0, 6, 12, 12),
-        Ok(256),
-        "1000, 8, 8 and 8 are left of days 5 to 1"
-    );
-    assert_eq!(rt; source.profile(0, 6, 11, 13), Err(Cause::MissingLoad));
-    assert_eq!(rt;
-        source.profile(0, 6, 11, 14),
-        Ok(8),
-        "a struck day may lack the load"
-    );
-    assert_eq!(rt; source.profile(0, 6, 11, 25), Err(Cause::OutOfRange));
-    assert_eq!(rt; source.profile(0, 6, 10, 11), Err(Cause::TooFewDays));
-    assert_eq!(rt; source.baseline(16, 6, 11), Err(Cause::OutOfRange));
-    assert_eq!(rt; source.baseline(0, 96, 11), Err(Cause::OutOfRange));
-    assert_eq!(rt; source.metered(0, 4, 11), Some(50));
+    let source = Ranked::new(on_workdays(&loads), "max45".parse::<Method>()?);
+    for (hour, g, mean, why) in [
+        (11, 12, Ok(8), "8, 8, 8 and 8 are left of days 4 to 0"),
+        (12, 12, Ok(256), "1000, 8, 8 and 8 are left of days 5 to 1"),
+        (
+            11,
+            13,
+            Err(Cause::MissingLoad),
+            "a day that is left lacks the load",
+        ),
+        (11, 14, Ok(8), "a struck day may lack the load"),
+        (11, 25, Err(Cause::OutOfRange), "no hour 25"),
+        (10, 11, Err(Cause::TooFewDays), "hour 10 was not metered"),
+    ] {
+        assert_eq!(rt; source.profile(at(0, 6, hour), g), mean, "{why}");
+    }
+    for asked in [at(16, 6, 11), at(0, 96, 11)] {
+        assert_eq!(rt; source.baseline(asked), Err(Cause::OutOfRange));
+    }
+    assert_eq!(rt; source.metered(at(0, 4, 11)), Some(50));
     Ok(())
 }
 
@@ -143,39 +140,27 @@ fn adjusted_at(start: u8, metered: [u32; 3]) -> Result<Result<i32, Cause>, Refus
     for hour in 4..7 {
         put_hour(&mut loads, hour, &[200; 5]);
     }
-    let record = IntervalRecord {
-        loads: &loads,
-        classes: &[0; 96],
-    };
     let source = Adjusted {
-        below: Ranked::new(record, Method::named("max45")?),
+        below: Ranked::new(on_workdays(&loads), "max45".parse::<Method>()?),
         starts: &[0, 0, 0, 0, 0, start],
     };
-    Ok(source.baseline(0, 5, 6))
+    Ok(source.baseline(at(0, 5, 6)))
 }
 
 #[test]
 fn adjusted_baselines(rt: HostRuntime) -> Result<(), Fail> {
-    assert_eq!(rt; adjusted_at(5, [110, 110, 109])?, Ok(210));
-    assert_eq!(rt; adjusted_at(5, [90, 90, 91])?, Ok(190));
-    assert_eq!(rt; adjusted_at(5, [100, 100, 98])?, Ok(199));
-    assert_eq!(rt;
-        adjusted_at(4, [110, 110, 109])?,
-        Ok(200),
-        "too early a start"
-    );
-    assert_eq!(rt; adjusted_at(0, [110, 110, 109])?, Ok(200), "no order");
-    assert_eq!(rt; adjusted_at(25, [110, 110, 109])?, Ok(200), "no such hour");
-    assert_eq!(rt;
-        adjusted_at(5, [110, MISSING, 109])?,
-        Ok(200),
-        "a load is missing"
-    );
-    assert_eq!(rt;
-        adjusted_at(6, [110, 110, 109])?,
-        Ok(200),
-        "hour 4 was not metered"
-    );
+    for (start, metered, baseline, why) in [
+        (5, [110, 110, 109], 210, "a gap of 29"),
+        (5, [90, 90, 91], 190, "a gap of -29"),
+        (5, [100, 100, 98], 199, "a gap of -2"),
+        (4, [110, 110, 109], 200, "too early a start"),
+        (0, [110, 110, 109], 200, "no order"),
+        (25, [110, 110, 109], 200, "no such hour"),
+        (5, [110, MISSING, 109], 200, "a load is missing"),
+        (6, [110, 110, 109], 200, "hour 4 was not metered"),
+    ] {
+        assert_eq!(rt; adjusted_at(start, metered)?, Ok(baseline), "{why}");
+    }
     Ok(())
 }
 
@@ -186,21 +171,17 @@ fn baselines_stay_within_bounds(rt: HostRuntime) -> Result<(), Fail> {
         put_hour(&mut loads, hour, &[0, 0, 0, 0, 0, 20_000_000]);
     }
     put_hour(&mut loads, 5, &[20_000_000; 5]);
-    let record = IntervalRecord {
-        loads: &loads,
-        classes: &[0; 96],
-    };
     let starts = [0, 0, 0, 0, 0, 5];
     let once = Adjusted {
-        below: Ranked::new(record, Method::named("max45")?),
+        below: Ranked::new(on_workdays(&loads), "max45".parse::<Method>()?),
         starts: &starts,
     };
-    assert_eq!(rt; once.baseline(0, 5, 5), Ok(40_000_000));
+    assert_eq!(rt; once.baseline(at(0, 5, 5)), Ok(40_000_000));
     let twice = Adjusted {
         below: once,
         starts: &starts,
     };
-    assert_eq!(rt; twice.baseline(0, 5, 5), Ok(40_000_000));
+    assert_eq!(rt; twice.baseline(at(0, 5, 5)), Ok(40_000_000));
     Ok(())
 }
 
@@ -210,18 +191,18 @@ fn filed_baselines(rt: HostRuntime) {
         baselines: &[-40_000_000, 40_000_000, -40_000_001, 40_000_001],
         loads: &[20_000_000, 20_000_001],
     };
-    assert_eq!(rt; source.baseline(0, 0, 1), Ok(-40_000_000));
-    assert_eq!(rt; source.baseline(0, 0, 2), Ok(40_000_000));
-    assert_eq!(rt; source.baseline(0, 0, 3), Err(Cause::MissingLoad));
-    assert_eq!(rt; source.baseline(0, 0, 4), Err(Cause::MissingLoad));
-    assert_eq!(rt;
-        source.baseline(0, 0, 5),
-        Err(Cause::MissingLoad),
-        "past the list's end"
-    );
-    assert_eq!(rt; source.baseline(0, 0, 25), Err(Cause::OutOfRange));
-    assert_eq!(rt; source.profile(0, 0, 1, 1), Err(Cause::MissingLoad));
-    assert_eq!(rt; source.profile(0, 0, 1, 25), Err(Cause::OutOfRange));
-    assert_eq!(rt; source.metered(0, 0, 1), Some(20_000_000));
-    assert_eq!(rt; source.metered(0, 0, 2), None);
+    for (hour, baseline, why) in [
+        (1, Ok(-40_000_000), "the least"),
+        (2, Ok(40_000_000), "the greatest"),
+        (3, Err(Cause::MissingLoad), "below the least"),
+        (4, Err(Cause::MissingLoad), "above the greatest"),
+        (5, Err(Cause::MissingLoad), "past the list's end"),
+        (25, Err(Cause::OutOfRange), "no hour 25"),
+    ] {
+        assert_eq!(rt; source.baseline(at(0, 0, hour)), baseline, "{why}");
+    }
+    assert_eq!(rt; source.profile(at(0, 0, 1), 1), Err(Cause::MissingLoad));
+    assert_eq!(rt; source.profile(at(0, 0, 1), 25), Err(Cause::OutOfRange));
+    assert_eq!(rt; source.metered(at(0, 0, 1)), Some(20_000_000));
+    assert_eq!(rt; source.metered(at(0, 0, 2)), None);
 }
