@@ -4,9 +4,7 @@ use Rattle.refusal.specs.declared.Refusal.{Refusal}
 use Rattle.refusal.specs.declared.Refusal.TheVariants.{NoLine, NoSuchBuyer, HourNotAllotted}
 use Rattle.refusal.specs.Tests.{refused_if, first_of}
 use Rattle.settlement.specs.declared.terms.Line.{Line}
-use Rattle.table.specs.declared.lines.ResourceLine.{ResourceLine}
-use Rattle.table.specs.declared.lines.ResourceLine.TheVariants.{Empty, Settled}
-use Rattle.table.specs.Lines.{no_line}
+use Rattle.table.specs.Lines.{ResourceLine, no_line}
 use Rattle.book.specs.Hours.{is_allotted}
 use Rattle.book.specs.State.{State, place, line_at, charge_at}
 use Rattle.book.specs.Calls.{Settling, named, is_empty, place_tests, resource_tests, line_tests, failure, reckon, reckoned, refusal, state_by, step, with_line}
@@ -28,17 +26,17 @@ module _ (b : State) (r day hour : ℕ) where
         first_after (line_tests b r day hour) (refused_if (is_empty (line_at b (place day hour) r)) NoLine ∷ []) pass.0
         ∙ ap (λ x. first_of (refused_if (is_empty x) NoLine ∷ [])) (sym (e ∙ ap (λ p. line_at b p r) pass.1))
 
-    pub withdraw_empty : Empty ≡ get_or b.lines (h * b.register.enrolled + r) no_line → refusal (withdraw r day hour) b ≡ Some NoLine
-    withdraw_empty e = by_line Empty e
+    pub withdraw_empty : None ≡ get_or b.lines (h * b.register.enrolled + r) no_line → refusal (withdraw r day hour) b ≡ Some NoLine
+    withdraw_empty e = by_line None e
 
-    pub withdraw_standing : (l : Line) → Settled l ≡ get_or b.lines (h * b.register.enrolled + r) no_line → refusal (withdraw r day hour) b ≡ None
-    withdraw_standing l e = by_line (Settled l) e
+    pub withdraw_standing : (l : Line) → Some l ≡ get_or b.lines (h * b.register.enrolled + r) no_line → refusal (withdraw r day hour) b ≡ None
+    withdraw_standing l e = by_line (Some l) e
 
-    pub withdrawn : (lines : List ResourceLine) → refusal (withdraw r day hour) b ≡ None → lines ≡ set b.lines (h * b.register.enrolled + r) Empty
+    pub withdrawn : (lines : List ResourceLine) → refusal (withdraw r day hour) b ≡ None → lines ≡ set b.lines (h * b.register.enrolled + r) None
         → record { register = b.register; hours = b.hours; lines = lines; charges = b.charges } ≡ (step (withdraw r day hour) b).1
     withdrawn lines none e =
         (λ i. record { register = b.register; hours = b.hours; lines = e i; charges = b.charges })
-        ∙ ap (λ p. with_line b p r Empty) (let_pass _ _ h ok).1
+        ∙ ap (λ p. with_line b p r None) (let_pass _ _ h ok).1
         ∙ sym (ap (λ o. state_by o (withdraw r day hour) b) none)
 
 module _ (b : State) (q : Settling) where
@@ -58,7 +56,7 @@ module _ (b : State) (q : Settling) where
     pub settle_reckoned : (l : Line) → Ok l ≡ reckon b.register q → refusal (settle q) b ≡ None
     settle_reckoned l e = by_reckoning (Ok l) e
 
-    pub settled_so : (l : Line) (lines : List ResourceLine) → Ok l ≡ reckon b.register q → lines ≡ set b.lines (h * b.register.enrolled + q.resource) (Settled l)
+    pub settled_so : (l : Line) (lines : List ResourceLine) → Ok l ≡ reckon b.register q → lines ≡ set b.lines (h * b.register.enrolled + q.resource) (Some l)
         → record { register = b.register; hours = b.hours; lines = lines; charges = b.charges } ≡ (step (settle q) b).1
     settled_so l lines k e =
         (λ i. record { register = b.register; hours = b.hours; lines = e i; charges = b.charges })

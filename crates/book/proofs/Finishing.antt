@@ -5,9 +5,8 @@ use Rattle.std.proofs.lemmas.List.{get_or_past, set_past}
 use Rattle.refusal.specs.declared.Refusal.{Refusal}
 use Rattle.refusal.specs.declared.Refusal.TheVariants.{ShortLists, WrongSlip}
 use Rattle.refusal.specs.Tests.{refused_if, first_of}
-use Rattle.table.specs.declared.lines.ResourceLine.{ResourceLine}
+use Rattle.table.specs.Lines.{ResourceLine, no_charge}
 use Rattle.table.specs.declared.lines.BuyerLine.{BuyerLine}
-use Rattle.table.specs.Lines.{no_charge}
 use Rattle.table.proofs.Filling.{length_filled}
 use Rattle.book.specs.declared.energies.Energies.{Energies}
 use Rattle.book.specs.declared.hour.Hour.{Hour}

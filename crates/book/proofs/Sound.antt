@@ -3,9 +3,8 @@ use Rattle.std.proofs.Common.{◌≡◌, ℕ, ◌+◌, ◌*◌, ◌<◌, ◌≤�
 use Rattle.std.proofs.lemmas.Bool.{both_ways, ne_eqb, cond-false, and_left}
 use Rattle.won.specs.Sums.{total_to}
 use Rattle.won.proofs.Sums.{total_same}
-use Rattle.table.specs.declared.lines.ResourceLine.{ResourceLine}
+use Rattle.table.specs.Lines.{ResourceLine, no_line, no_charge, paid_of, fined_of}
 use Rattle.table.specs.declared.lines.BuyerLine.{BuyerLine}
-use Rattle.table.specs.Lines.{no_line, no_charge, paid_of, fined_of}
 use Rattle.table.proofs.Filling.{length_filled, read_filled}
 use Rattle.table.proofs.Rows.{row_within, read_row, read_other_row}
 use Rattle.book.specs.declared.energies.Energies.{Energies}

@@ -1,7 +1,7 @@
 -- The values of the code as the definitions see them.
 use Rattle.std.specs.Prelude.{ℕ, false, List, Some, None, Ok, Err, Option, Result}
 use Rattle.refusal.specs.declared.Refusal.{Refusal}
-use Rattle.table.specs.declared.lines.ResourceLine.{ResourceLine}
+use Rattle.table.specs.Lines.{ResourceLine}
 use Rattle.table.specs.declared.lines.BuyerLine.{BuyerLine}
 use Rattle.book.specs.declared.book.Book.{Book}
 use Rattle.book.specs.declared.open.Opening as code

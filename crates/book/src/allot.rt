@@ -2,7 +2,7 @@
 ghost use Rattle.std.specs.Prelude.{◌≡◌, ◌+◌, ◌*◌, ◌^◌, ◌<◌, ◌≤◌, List, replicate, IfOk, None, slice_index_or, unsigned_abs};
 ghost use Rattle.share.specs.Shares.{shares};
 ghost use Rattle.won.specs.Sums.{total_to};
-ghost use Rattle.table.specs.Lines.{no_line, no_charge, paid_of, fined_of};
+ghost use Rattle.table.specs.Lines.{ResourceLine, no_line, no_charge, paid_of, fined_of};
 ghost use Rattle.table.specs.Tables.{filled};
 ghost use Rattle.book.specs.Hours.{step_refusal, step_answer, hour_after};
 ghost use Rattle.book.specs.State.{paid_in, fined_in};

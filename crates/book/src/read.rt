@@ -52,8 +52,8 @@ impl Book {
     {
         match self.resource_place(lines, charges, resource, day, hour) {
             Ok(h) => match line_at(lines, self.register.enrolled, h, resource) {
-                ResourceLine::Empty => Err(Refusal::NoLine),
-                ResourceLine::Settled(line) => Ok(reading_of(line)),
+                None => Err(Refusal::NoLine),
+                Some(line) => Ok(reading_of(line)),
             },
             Err(refusal) => Err(refusal),
         }

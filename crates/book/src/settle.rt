@@ -91,7 +91,7 @@ impl Book {
             Ok(h) => match self.reckon(resource, day, hour, terms, marks, scheduled, mandatory) {
                 Ok(line) => {
                     let width = self.register.enrolled;
-                    put_line(lines, width, h, resource, ResourceLine::Settled(line));
+                    put_line(lines, width, h, resource, Some(line));
                     Ok(())
                 }
                 Err(refusal) => Err(refusal),

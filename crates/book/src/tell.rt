@@ -1,6 +1,7 @@
 // Telling an hour's energies.
 ghost use Rattle.std.specs.Prelude.{◌≡◌, ◌<◌, ◌≤◌, List, length, replicate, sum, slice_index, slice_set};
 ghost use Rattle.refusal.specs.Tests.{first_of};
+ghost use Rattle.table.specs.Lines.{ResourceLine};
 ghost use Rattle.table.specs.Tables.{filled};
 ghost use Rattle.book.specs.Telling.{energies_tests, energies_of};
 ghost use Rattle.book.specs.Calls.{with_energies, refusal, step};

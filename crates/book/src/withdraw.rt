@@ -25,10 +25,10 @@ impl Book {
     {
         match self.line_place(lines, charges, resource, day, hour) {
             Ok(h) => match line_at(lines, self.register.enrolled, h, resource) {
-                ResourceLine::Empty => Err(Refusal::NoLine),
-                ResourceLine::Settled(_) => {
+                None => Err(Refusal::NoLine),
+                Some(_) => {
                     let width = self.register.enrolled;
-                    put_line(lines, width, h, resource, ResourceLine::Empty);
+                    put_line(lines, width, h, resource, None);
                     Ok(())
                 }
             },

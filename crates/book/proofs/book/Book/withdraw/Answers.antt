@@ -6,16 +6,16 @@ use Rattle.book.specs.Seen.{seen, granted_or}
 use Rattle.book.proofs.Changed.{withdraw_refused, withdraw_empty, withdraw_standing, withdrawn}
 use Rattle.book.proofs.book.Book.withdraw.Goals as goal
 
-pub returns-in-Empty : goal.returns-in-Empty
-returns-in-Empty c =
+pub returns-in-None : goal.returns-in-None
+returns-in-None c =
     let b : State = seen c.args.self.now c.args.lines.now c.args.charges.now in
-    let e = withdraw_empty b c.args.resource c.args.day c.args.hour c.in-Ok.h c.in-Ok.ensures.value c.in-Empty.ensures.value in
+    let e = withdraw_empty b c.args.resource c.args.day c.args.hour c.in-Ok.h c.in-Ok.ensures.value c.in-None.ensures.value in
     record { answer = sym (ap (λ o. granted_or o tt) e); book = sym (ap (λ o. state_by o (withdraw c.args.resource c.args.day c.args.hour) b) e) }
 
-pub returns-in-Settled : goal.returns-in-Settled
-returns-in-Settled c =
+pub returns-in-Some : goal.returns-in-Some
+returns-in-Some c =
     let b : State = seen c.args.self.now c.args.lines.now c.args.charges.now in
-    let e = withdraw_standing b c.args.resource c.args.day c.args.hour c.in-Ok.h c.in-Ok.ensures.value _ c.in-Settled.ensures.value in
+    let e = withdraw_standing b c.args.resource c.args.day c.args.hour c.in-Ok.h c.in-Ok.ensures.value _ c.in-Some.ensures.value in
     record {
       answer = sym (ap (λ o. granted_or o tt) e);
       book = withdrawn b c.args.resource c.args.day c.args.hour c.in-Ok.h c.in-Ok.ensures.value c.put_line.new.lines e c.put_line.ensures.value;
