@@ -74,7 +74,14 @@ impl Book {
     {
         let portfolio = self.register.resources[settling.resource as usize].portfolio();
         let slot = self.slot(settling.at);
-        settle_line(settling.scheduled, settling.mandatory, settling.marks, portfolio, slot, settling.terms)
+        settle_line(
+            settling.scheduled,
+            settling.mandatory,
+            settling.marks,
+            portfolio,
+            slot,
+            settling.terms,
+        )
     }
 
     // Settles a resource's hour that is not allotted, over two sources; the line replaces the one before.
