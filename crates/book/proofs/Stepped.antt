@@ -1,14 +1,12 @@
 -- What a step of an hour says of the call that makes it.
-use Rattle.std.proofs.Common.{◌≡◌, ℕ, ◌*◌, List, ◌++◌, set, Some, None, Ok, Err, Option, Result, sym, refl, ap, ◌∙◌, ap₂, arith}
+use Rattle.std.proofs.Common.{◌≡◌, ℕ, ◌*◌, List, ◌++◌, set, Some, None, Ok, Option, sym, ap, ◌∙◌, ap₂, arith}
 use Rattle.refusal.specs.declared.Refusal.{Refusal}
 use Rattle.refusal.specs.Tests.{first_of}
 use Rattle.table.specs.declared.lines.BuyerLine.{BuyerLine}
 use Rattle.table.specs.Tables.{filled}
 use Rattle.book.specs.declared.energies.Energies.{Energies}
 use Rattle.book.specs.declared.hour.Hour.{Hour}
-use Rattle.book.specs.declared.hour.Hour.TheVariants.{Blank, Told, Allotted, Correcting}
 use Rattle.book.specs.declared.hour.Step.{Step}
-use Rattle.book.specs.declared.hour.Step.TheVariants.{Allot, Reopen, Finish}
 use Rattle.book.specs.declared.register.Register.{Register}
 use Rattle.book.specs.Hours.{energies_in, as_allotted, step_tests, step_refusal, step_answer, stepped, hour_by, hour_after}
 use Rattle.book.specs.State.{State, hour_at, paid_in, fined_in}
@@ -17,27 +15,9 @@ use Rattle.book.specs.Seen.{granted_or}
 use Rattle.book.proofs.Refused.{first_after}
 use Rattle.book.proofs.Decided.{let_pass}
 
-differ : {X : Type 0} (r : Refusal) (e : X) → ◌≡◌ {A = Result X Refusal} (Ok e) (Err r) → ⊥
-differ r e p = let z : ◌≡◌ {A = ℕ} 0 1 = cc in omega arith
-
-module _ {E : Type 0} where
-  same_of : (d e : E) → ◌≡◌ {A = Result E Refusal} (Ok d) (Ok e) → ◌≡◌ {A = Option E} (Some e) (Some d)
-  same_of d e p = cc
-
-  -- a step that answers energies was not refused, and they are the hour's
-  answered_ok : (call : Step) (x : Hour E) (e : E) → Ok e ≡ step_answer (step_refusal call x) x → (step_refusal call x ≡ None) × (energies_in x ≡ Some e)
-  answered_ok Allot Blank e p = absurd (differ _ _ p)
-  answered_ok Allot (Told d) e p = (refl, same_of e d p)
-  answered_ok Allot (Allotted d) e p = absurd (differ _ _ p)
-  answered_ok Allot (Correcting d) e p = absurd (differ _ _ p)
-  answered_ok Reopen Blank e p = absurd (differ _ _ p)
-  answered_ok Reopen (Told d) e p = absurd (differ _ _ p)
-  answered_ok Reopen (Allotted d) e p = (refl, same_of e d p)
-  answered_ok Reopen (Correcting d) e p = absurd (differ _ _ p)
-  answered_ok Finish Blank e p = absurd (differ _ _ p)
-  answered_ok Finish (Told d) e p = absurd (differ _ _ p)
-  answered_ok Finish (Allotted d) e p = absurd (differ _ _ p)
-  answered_ok Finish (Correcting d) e p = (refl, same_of e d p)
+-- a step that answers energies was not refused, and they are the hour's
+answered_ok : {E : Type 0} (call : Step) (x : Hour E) (e : E) → Ok e ≡ step_answer (step_refusal call x) x → (step_refusal call x ≡ None) × (energies_in x ≡ Some e)
+answered_ok call x e f = grind arith
 
 -- a call that tests os, then allots the hour at p and writes its charges
 module _ (c : Call) (b : State) (call : Step) (os : List (Option Refusal)) (p : ℕ) (is : tests c b ≡ os ++ step_tests call (hour_at b p)) (does : effect c b ≡ allotted b p) (allots : (x : Hour Energies) → stepped call x ≡ as_allotted x) where
