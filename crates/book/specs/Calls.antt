@@ -13,10 +13,8 @@ use Rattle.settlement.specs.declared.terms.Slot.{Slot}
 use Rattle.settlement.specs.declared.terms.Terms.{Terms}
 use Rattle.settlement.specs.Settle.{settled}
 use Rattle.share.specs.Shares.{share}
-use Rattle.table.specs.declared.lines.ResourceLine.{ResourceLine}
-use Rattle.table.specs.declared.lines.ResourceLine.TheVariants.{Empty, Settled}
+use Rattle.table.specs.Lines.{ResourceLine, no_charge}
 use Rattle.table.specs.declared.lines.BuyerLine.{BuyerLine}
-use Rattle.table.specs.Lines.{no_charge}
 use Rattle.table.specs.Tables.{filled}
 use Rattle.book.specs.declared.energies.Energies.{Energies}
 use Rattle.book.specs.declared.hour.Hour.{Hour}
@@ -79,8 +77,8 @@ failure (Ok line) = None
 failure (Err refusal) = Some refusal
 
 abbrev pub reckoned : Result Line Refusal → ResourceLine
-reckoned (Ok line) = Settled line
-reckoned (Err refusal) = Empty
+reckoned (Ok line) = Some line
+reckoned (Err refusal) = None
 
 -- refusals, in their order
 
@@ -88,8 +86,8 @@ abbrev pub named : State → ℕ → ℕ → Hour Energies
 named b day hour = hour_at b (place day hour)
 
 abbrev pub is_empty : ResourceLine → Bool
-is_empty Empty = true
-is_empty (Settled line) = false
+is_empty None = true
+is_empty (Some line) = false
 
 -- the lists are measured before anything else
 abbrev pub measured : State → Option Refusal
@@ -183,7 +181,7 @@ reopened b h = with_row b h (as_correcting (hour_at b h)) (λ _. no_charge)
 abbrev pub effect : Call → State → State
 effect (tell day hour total others) b = with_energies b (place day hour) (energies_of total others)
 effect (settle q) b = with_line b (place q.day q.hour) q.resource (reckoned (reckon b.register q))
-effect (withdraw r day hour) b = with_line b (place day hour) r Empty
+effect (withdraw r day hour) b = with_line b (place day hour) r None
 effect (allot day hour) b = allotted b (place day hour)
 effect (reopen day hour) b = reopened b (place day hour)
 effect (finish slip) b = allotted b (place slip.day slip.hour)

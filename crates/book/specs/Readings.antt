@@ -4,8 +4,7 @@ use Rattle.refusal.specs.declared.Refusal.{Refusal}
 use Rattle.refusal.specs.declared.Refusal.TheVariants.{NoSuchBuyer, NoLine, HourNotAllotted}
 use Rattle.refusal.specs.Tests.{refused_if, first_of}
 use Rattle.settlement.specs.declared.terms.Line.{Line}
-use Rattle.table.specs.declared.lines.ResourceLine.{ResourceLine}
-use Rattle.table.specs.declared.lines.ResourceLine.TheVariants.{Empty, Settled}
+use Rattle.table.specs.Lines.{ResourceLine}
 use Rattle.table.specs.declared.lines.BuyerLine.{BuyerLine}
 use Rattle.book.specs.declared.read.LineReading.{LineReading}
 use Rattle.book.specs.Hours.{is_allotted}
@@ -27,8 +26,8 @@ reading_of line = record {
 
 abbrev pub line_or : Option Refusal → ResourceLine → Result LineReading Refusal
 line_or (Some refusal) line = Err refusal
-line_or None Empty = Err NoLine
-line_or None (Settled line) = Ok (reading_of line)
+line_or None None = Err NoLine
+line_or None (Some line) = Ok (reading_of line)
 
 -- what a resource's line in an hour says
 abbrev pub line_read : State → ℕ → ℕ → ℕ → Result LineReading Refusal

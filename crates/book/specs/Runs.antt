@@ -2,8 +2,7 @@
 use Rattle.std.specs.Prelude.{◌≡◌, ℕ, ◌<◌, ◌≤◌, Bool, true, false, cond, ◌&&◌, ◌||◌, List, [], ◌∷◌, ℤ, pos, ◌+ℤ◌, ◌-ℤ◌, ◌*ℤ◌, ◌<ℤ◌, Some, None, Option, ◌==◌}
 use Rattle.refusal.specs.declared.Refusal.{Refusal}
 use Rattle.won.specs.Sums.{total_to}
-use Rattle.table.specs.declared.lines.ResourceLine.{ResourceLine}
-use Rattle.table.specs.Lines.{no_line, paid_of, fined_of}
+use Rattle.table.specs.Lines.{ResourceLine, no_line, paid_of, fined_of}
 use Rattle.book.specs.declared.energies.Energies.{Energies}
 use Rattle.book.specs.declared.hour.Hour.TheVariants.{Blank}
 use Rattle.book.specs.declared.register.Register.{Register}

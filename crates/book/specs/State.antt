@@ -1,9 +1,8 @@
 -- A book with the two lists that its calls are handed, its places and its sums.
 use Rattle.std.specs.Prelude.{ℕ, ◌+◌, ◌-◌, ◌*◌, Bool, ◌&&◌, ◌||◌, List, length, ℤ, nat_le, nat_lt, slice_index_or}
 use Rattle.won.specs.Sums.{total_to}
-use Rattle.table.specs.declared.lines.ResourceLine.{ResourceLine}
+use Rattle.table.specs.Lines.{ResourceLine, no_line, no_charge, paid_of, fined_of}
 use Rattle.table.specs.declared.lines.BuyerLine.{BuyerLine}
-use Rattle.table.specs.Lines.{no_line, no_charge, paid_of, fined_of}
 use Rattle.book.specs.declared.energies.Energies.{Energies}
 use Rattle.book.specs.declared.hour.Hour.{Hour}
 use Rattle.book.specs.declared.hour.Hour.TheVariants.{Blank}

@@ -24,7 +24,7 @@ pub(crate) const OLD: BuyerLine = BuyerLine {
     refund: i64::MAX,
 };
 
-pub(crate) const OLD_LINE: ResourceLine = ResourceLine::Settled(Line {
+pub(crate) const OLD_LINE: ResourceLine = Some(Line {
     plan: 1,
     order: 2,
     sr: -3,

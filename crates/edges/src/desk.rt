@@ -36,7 +36,7 @@ impl Desk {
     pub fn new() -> Desk {
         Desk {
             book: Book::new(),
-            lines: [ResourceLine::Empty; 745],
+            lines: [None; 745],
             charges: [BEYOND; 2233],
         }
     }

@@ -102,7 +102,7 @@ pub fn resources(rt: &HostRuntime, tally: &mut Tally) -> anyhow::Result<()> {
 // What an opening of May comes to, with so many resources, buyers and places in the two lists.
 fn opened(first_day: u32, count: usize, kind: u32, buyers: u32, short: usize) -> Outcome {
     let mut desk = Desk::new();
-    let mut lines = [ResourceLine::Empty; 11_904];
+    let mut lines = [None; 11_904];
     let mut charges = [BuyerLine {
         charge: 0,
         refund: 0,

@@ -59,7 +59,7 @@ fn terms() -> Terms {
 fn run(buffer: &mut [u8]) -> Result<usize, Refusal>
     ensures bounded { IfOk result (λ n. n ≤ length buffer.old) }
 {
-    let mut lines = [ResourceLine::Empty; 744];
+    let mut lines = [None; 744];
     let mut charges = [BuyerLine {
         charge: 0,
         refund: 0,

@@ -13,7 +13,7 @@ impl Desk {
     pub fn new() -> Desk {
         Desk {
             book: Book::new(),
-            lines: [ResourceLine::Empty; 2170],
+            lines: [None; 2170],
             charges: [BuyerLine {
                 charge: 0,
                 refund: 0,

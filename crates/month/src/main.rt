@@ -148,7 +148,7 @@ fn read_again(
 // The whole month, and what it comes to.
 fn run() -> Result<Reconciliation, Refusal> {
     let mut book = Book::new();
-    let mut lines = [ResourceLine::Empty; 744];
+    let mut lines = [None; 744];
     let mut charges = [BuyerLine {
         charge: 0,
         refund: 0,

@@ -16,7 +16,7 @@ const fn charge(charge: i64, refund: i64) -> BuyerLine {
 
 // A settled line of which only the money matters.
 const fn line(plan_pay: i32, order_pay: i32, fined: u32) -> ResourceLine {
-    ResourceLine::Settled(Line {
+    Some(Line {
         plan: 0,
         order: 0,
         sr: 0,
@@ -106,7 +106,7 @@ fn write_in_correction(
 
 #[test]
 fn only_allotted_hours_are_summed(rt: HostRuntime) -> Result<(), Fail> {
-    let mut lines = [ResourceLine::Empty; 696];
+    let mut lines = [None; 696];
     let mut charges = [charge(0, 0); 1_392];
     let mut book = Book::new();
     let opening = Opening {
@@ -135,7 +135,7 @@ fn only_allotted_hours_are_summed(rt: HostRuntime) -> Result<(), Fail> {
     );
     assert!(rt; buffer == *text);
     assert_eq!(rt;
-        write_sheet(&book, &[ResourceLine::Empty; 695], &charges, &mut []),
+        write_sheet(&book, &[None; 695], &charges, &mut []),
         Err(Refusal::ShortLists)
     );
     Ok(())
@@ -143,7 +143,7 @@ fn only_allotted_hours_are_summed(rt: HostRuntime) -> Result<(), Fail> {
 
 #[test]
 fn the_largest_month_does_not_wrap(rt: HostRuntime) -> Result<(), Fail> {
-    let mut lines = [ResourceLine::Empty; 11_904];
+    let mut lines = [None; 11_904];
     let mut charges = [charge(0, 0); 5_952];
     let mut book = Book::new();
     let opening = Opening {

@@ -6,7 +6,7 @@ pub mod table;
 
 #[cfg(test)]
 mod tests {
-    use crate::lines::{BuyerLine, ResourceLine};
+    use crate::lines::BuyerLine;
     use crate::table::{Sums, Table, line_at, row_sums};
     use settlement::terms::Line;
 
@@ -70,11 +70,7 @@ mod tests {
             order_pay: -2147483648,
             fined: 4294967295,
         };
-        let settled = [
-            ResourceLine::Settled(worst),
-            ResourceLine::Empty,
-            ResourceLine::Settled(worst),
-        ];
+        let settled = [Some(worst), None, Some(worst)];
         assert_eq!(rt;
             row_sums(&settled, 3, 0),
             Sums {

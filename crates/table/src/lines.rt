@@ -5,11 +5,7 @@ ghost use Rattle.table.specs.Lines.{no_line, no_charge, paid_of, fined_of};
 use settlement::terms::Line;
 
 // What stands at the place of a resource in an hour.
-#[derive(Clone, Copy, PartialEq, Eq, Debug)]
-pub enum ResourceLine {
-    Empty,
-    Settled(Line),
-}
+pub type ResourceLine = Option<Line>;
 
 // What stands at the place of a buyer in an hour, in won.
 #[derive(Clone, Copy, PartialEq, Eq, Debug)]
@@ -55,20 +51,20 @@ impl Amounts for ResourceLine {
     ghost most = { 2 ^ 32 };
 
     fn empty() -> ResourceLine {
-        ResourceLine::Empty
+        None
     }
 
     fn due(&self) -> i64 {
         match *self {
-            ResourceLine::Empty => 0,
-            ResourceLine::Settled(line) => line.plan_pay as i64 + line.order_pay as i64,
+            None => 0,
+            Some(line) => line.plan_pay as i64 + line.order_pay as i64,
         }
     }
 
     fn back(&self) -> i64 {
         match *self {
-            ResourceLine::Empty => 0,
-            ResourceLine::Settled(line) => line.fined as i64,
+            None => 0,
+            Some(line) => line.fined as i64,
         }
     }
 }
