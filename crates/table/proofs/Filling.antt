@@ -1,7 +1,11 @@
 -- What stands in a list after lines were written from a place on.
-use Rattle.std.proofs.Common.{◌≡◌, ℕ, zero, suc, ◌+◌, ◌-◌, ◌<◌, ◌≤◌, min, ◌≢◌, ◌⊎◌, List, length, get_or, set, sym, refl, ap, ◌∙◌, inl, inr, ⊎_elim, add-one, arith, length-set, get_or-set_other, get_or-set_same}
+use Rattle.std.proofs.Common.{◌≡◌, ℕ, zero, suc, ◌+◌, ◌-◌, ◌<◌, ◌≤◌, min, ◌≢◌, ◌⊎◌, List, length, get_or, set, sym, refl, ap, ◌∙◌, inl, inr, ⊎_elim, zero-add, add-one, arith, length-set, get_or-set_other, get_or-set_same}
 use Rattle.std.proofs.lemmas.List.{set_past}
 use Rattle.std.proofs.lemmas.Bool.{cases_lt}
+use Rattle.std.proofs.lemmas.List.Edits.{paste_none, paste_more}
+use Rattle.std.proofs.lemmas.Slice.{put_mid-paste}
+use borrow.Rule.Slice.PartMut.{put_mid}
+use lib.Seq.{paste}
 use Rattle.table.specs.Tables.{filled}
 
 -- the list keeps its length
@@ -52,9 +56,9 @@ filled_past xs at n (suc m) f h =
 pub filled_turn : {X : Type 0} (xs ys zs : List X) (at k : ℕ) (f : ℕ → X) (v : X) → ys ≡ filled xs at k f → v ≡ f k → zs ≡ set ys (at + k) v → zs ≡ filled xs at (k + 1) f
 filled_turn xs ys zs at k f v p q r = let m = filled_more xs at k f in cc
 
--- as many lines as the list has places, or as are asked for
-pub filled_all : {X : Type 0} (xs : List X) (at n k : ℕ) (f : ℕ → X) → k ≤ n → min n (length xs) ≤ k → filled xs at k f ≡ filled xs at n f
-filled_all xs at n k f h m = ⊎_elim short whole (cases_lt k n)
+-- as many lines as the list has places behind the first, or as are asked for
+filled_rest : {X : Type 0} (xs : List X) (at n k : ℕ) (f : ℕ → X) → k ≤ n → min n (length xs - at) ≤ k → filled xs at k f ≡ filled xs at n f
+filled_rest xs at n k f h m = ⊎_elim short whole (cases_lt k n)
   where
     short : k < n → filled xs at k f ≡ filled xs at n f
     short l =
@@ -63,3 +67,20 @@ filled_all xs at n k f h m = ⊎_elim short whole (cases_lt k n)
 
     whole : n ≤ k → filled xs at k f ≡ filled xs at n f
     whole l = let e : k ≡ n = omega arith in ap (λ j. filled xs at j f) e
+
+-- a row copied over the places from one on
+pub filled_copied : {X : Type 0} (xs s : List X) (at n : ℕ) (d : X) → at + n ≤ length xs → n ≤ length s → filled xs at n (λ k. get_or s k d) ≡ paste xs at s n
+filled_copied xs s at zero d l m = paste_none xs at s
+filled_copied xs s at (suc n) d l m =
+    let e = filled_copied xs s at n d (omega arith) (omega arith) in
+    ap (λ ys. set ys (at + n) (get_or s n d)) e ∙ paste_more xs at s n d (omega arith) (omega arith) ∙ ap (paste xs at s) (add-one n)
+
+-- lines written over the places from one on, as far as the list goes
+pub filled_part : {X : Type 0} (xs ys : List X) (at n a k : ℕ) (f : ℕ → X) (d : X) → a ≡ min at (length xs) → k ≡ min n (length xs - a) → length ys ≡ k → ((j : ℕ) → j < k → get_or ys j d ≡ f j) → put_mid a (a + k - a) xs ys ≡ filled xs at n f
+filled_part xs ys at n a k f d e g l h = put_mid-paste a (a + k - a) xs ys ys k refl (omega arith) (omega arith) ∙ sym (filled_copied xs ys a k d (omega arith) (omega arith)) ∙ filled_same xs a k (λ j. get_or ys j d) f h ∙ ⊎_elim within past (cases_lt at (length xs))
+  where
+    within : at < length xs → filled xs a k f ≡ filled xs at n f
+    within i = let b : a ≡ at = omega arith in ap (λ j. filled xs j k f) b ∙ filled_rest xs at n k f (omega arith) (omega arith)
+
+    past : length xs ≤ at → filled xs a k f ≡ filled xs at n f
+    past i = let z : k ≡ 0 = omega arith in ap (λ j. filled xs a j f) z ∙ sym (filled_past xs at 0 n f (omega arith)) ∙ ap (λ j. filled xs at j f) (zero-add n)
