@@ -4,9 +4,9 @@ use Rattle.std.specs.List.{AllByRecursion}
 use Rattle.std.proofs.ByRecursion.{All-get_or, All-from_get_or}
 use Rattle.std.proofs.lemmas.Bool.{cases_Bool, cases_lt, lt-ltb, le-ltb}
 use Rattle.std.proofs.lemmas.Bool.Decides.{nat_tests}
-use Rattle.std.proofs.lemmas.List.Sums.{count_by-le-length, length-filter}
+use Rattle.std.proofs.lemmas.List.Sums.{count_by-le-length, length-filter, sum_by-cons}
 use Rattle.baseline.proofs.Orders.{TotalOrder, rank_by, foremost, stays_by, unstruck_by, Apart}
-use Rattle.baseline.proofs.Counts.{one, count_cons, count_same, count_le, count_lt, count_split}
+use Rattle.baseline.proofs.Counts.{one, count_same, count_le, count_lt, count_split}
 
 ltb_suc : (a b : ℕ) → ltb (suc a) (suc b) ≡ ltb a b
 ltb_suc a b = elim (cases_lt a b) [ inl h ↦ lt-ltb (suc a) (suc b) (omega arith) ∙ sym (lt-ltb a b h) | inr h ↦ le-ltb (suc a) (suc b) (omega arith) ∙ sym (le-ltb a b h) ]
@@ -24,7 +24,7 @@ module _ {X : Type 0} (lower : X → X → Bool) (o : TotalOrder lower) where
   above x y no' e = elim (cases_Bool (lower x y)) [ inl t ↦ t | inr f ↦ absurd (no' (o.connected y x e f)) ]
 
   rank_cons : (y : X) (ys : List X) (x : X) → rank_by lower (y ∷ ys) x ≡ one (lower y x) + rank_by lower ys x
-  rank_cons y ys x = count_cons (λ z. lower z x) y ys
+  rank_cons y ys x = sum_by-cons (λ z. one (lower z x)) y ys
 
   -- y comes after the k foremost
   same_under : (y : X) (ys : List X) (k : ℕ) → k ≤ rank_by lower ys y → (x : X) → foremost lower (y ∷ ys) k x ≡ foremost lower ys k x
@@ -67,7 +67,7 @@ module _ {X : Type 0} (lower : X → X → Bool) (o : TotalOrder lower) where
       let short = count_by-le-length (λ z. lower z y) ys in
       let others = count_same (foremost lower (y ∷ ys) k) (foremost lower ys k) ys (All-from_get_or (λ x. foremost lower (y ∷ ys) k x ≡ foremost lower ys k x) ys y (λ i _. same_under y ys k h (get_or ys i y))) in
       let rest : count_by (foremost lower ys k) ys ≡ k = inner k (omega arith) in
-      count_cons (foremost lower (y ∷ ys) k) y ys ∙ omega (arith, own, others, rest)
+      sum_by-cons (λ z. one (foremost lower (y ∷ ys) k z)) y ys ∙ omega (arith, own, others, rest)
 
   early : (y : X) (ys : List X) → AllByRecursion (λ x. y ≡ x → ⊥) ys → ((k : ℕ) → k ≤ length ys → count_by (foremost lower ys k) ys ≡ k) → (k : ℕ) → k ≤ length ys → rank_by lower ys y ≤ k → count_by (foremost lower (y ∷ ys) (suc k)) (y ∷ ys) ≡ suc k
   early y ys apart inner k within h =
@@ -75,7 +75,7 @@ module _ {X : Type 0} (lower : X → X → Bool) (o : TotalOrder lower) where
       let others = count_same (foremost lower (y ∷ ys) (suc k)) (foremost lower ys k) ys
       (All-from_get_or (λ x. foremost lower (y ∷ ys) (suc k) x ≡ foremost lower ys k x) ys y (λ i l. same_over y ys k h i l (All-get_or (λ x. y ≡ x → ⊥) ys i y l apart))) in
       let rest = inner k within in
-      count_cons (foremost lower (y ∷ ys) (suc k)) y ys ∙ omega (arith, own, others, rest)
+      sum_by-cons (λ z. one (foremost lower (y ∷ ys) (suc k) z)) y ys ∙ omega (arith, own, others, rest)
 
   -- of records that are all apart, just k are the k foremost
   pub count_foremost : (xs : List X) → Apart xs → (k : ℕ) → k ≤ length xs → count_by (foremost lower xs k) xs ≡ k

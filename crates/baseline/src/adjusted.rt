@@ -1,5 +1,5 @@
 // The adjusting layer: baselines brought to the load in the hours before each day's first order.
-ghost use Rattle.std.specs.Prelude.{◌≡◌, ◌+◌, ◌≤◌, pos, negsuc, ◌+ℤ◌, ◌-ℤ◌, ◌*ℤ◌, ◌≤ℤ◌};
+ghost use Rattle.std.specs.Prelude.{◌≡◌, ◌+◌, ◌≤◌, pos, negsuc, ◌+ℤ◌, ◌-ℤ◌, ◌*ℤ◌, ◌≤ℤ◌, if◌then◌else◌, nat_le, Some, None};
 ghost use Rattle.baseline.specs.Meaning.{WithinBounds};
 ghost use Rattle.baseline.specs.Sources.{start_on, rounded_third, clamped, gap_on, brought_by, adjusted_source};
 
@@ -11,18 +11,20 @@ use refusal::Cause;
 const FIRST_ADJUSTED: u32 = 5;
 
 // A source below, and a byte for each day: the hour in which its first order starts, 0 for none.
+// Stays: (a) a table is handed in as bytes, and each byte has a meaning.
 #[derive(Drop)]
 pub struct Adjusted<'a, S> {
     pub below: S,
     pub starts: &'a [u8],
 }
 
-// The hour in which the first order of a day starts, 0 for none.
-fn start_of(starts: &[u8], day: u32) -> u32
-    ensures value { result ≡ start_on starts.now day }
-    ensures bounded { result ≤ 255 }
+// The hour in which the first order of a day starts, if it adjusts.
+fn adjusting_start(starts: &[u8], day: u32) -> Option<u32>
+    ensures value { result ≡ (if nat_le 5 (start_on starts.now day) then Some (start_on starts.now day) else None) }
 {
-    u32::from(byte_of(starts, day).unwrap_or(0))
+    byte_of(starts, day)
+        .map(u32::from)
+        .filter(|start| *start >= FIRST_ADJUSTED)
 }
 
 // The metered loads of three hours less their profiles, in Wh.
@@ -70,10 +72,10 @@ impl<S: BaselineSource> Adjusted<'_, S> {
         ensures value { result ≡ brought_by baseline (gap_on (S.meaning self.now.below) self.now.starts.now asked.customer asked.day) }
         ensures bounded { WithinBounds result }
     {
-        let start = start_of(self.starts, asked.day);
-        if start < FIRST_ADJUSTED {
+        // Stays: (a) each load and profile by `let .. else`.
+        let Some(start) = adjusting_start(self.starts, asked.day) else {
             return baseline;
-        }
+        };
         let Some(load_a) = self.below.metered(asked.in_hour(start - 4)) else {
             return baseline;
         };

@@ -30,6 +30,7 @@ impl From<u8> for DayClass {
 
 // What the meters of some customers measured, in Wh.
 pub trait LoadRecord {
+    // Stays: (d) the clauses of the interface name their bounds in full for those who implement it.
     ghost meaning: { Self → LoadMeaning };
 
     // The load of a customer on a day in an hour, or none if it is missing.
