@@ -45,7 +45,7 @@ fn added<S: BaselineSource>(
     Ok(sum + cut)
 }
 
-// Stays: two functions, as the scheduled one goes over the marks by their places; both add by `added`.
+// Stays: two functions, since the scheduled reduction is a `for` over the marks with their places, the mandatory one over all customers; both add by `added`.
 impl ResourceHour {
     // SR: the cuts of the customers that take part, added up, or the first of them with a cause; without a plan nothing is asked.
     pub(crate) fn scheduled_reduction<S: BaselineSource>(

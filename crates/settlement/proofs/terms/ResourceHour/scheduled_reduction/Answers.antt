@@ -5,16 +5,8 @@ use Rattle.std.proofs.lemmas.List.{length-take, get_or-take, get_or_past}
 use Rattle.std.proofs.lemmas.Result.{err_from_is_err_and}
 use Rattle.settlement.specs.Reduction.{reduction, takes_part}
 use Rattle.settlement.specs.Settle.{none, scheduled_reduction}
-use Rattle.settlement.proofs.Reductions.{reduction_adds, reduction_skips, reduction_ends, reduction_rest}
+use Rattle.settlement.proofs.Reductions.{reduction_adds, reduction_ends, reduction_rest}
 use Rattle.settlement.proofs.terms.ResourceHour.scheduled_reduction.Goals as goal
-
-pub loop-place-preserved-then-not-takes_part : goal.loop-place-preserved-then-not-takes_part
-loop-place-preserved-then-not-takes_part g c =
-    let m = g.S.BaselineSource.meaning c.args.source.now in
-    let marks = c.args.marks.now in
-    let same = get_or-take c.min.result marks c.loop-place.place 0 (omega (arith, length-take {A = ℕ})) in
-    let out : takes_part marks c.loop-place.place ≡ false = ap (λ mark. mark == 1) (sym same) ∙ sym c.if-not-takes_part.ensures.value in
-    (reduction_skips m (takes_part marks) _ _ _ out ∙ c.loop-place.invariant.0, (omega (arith, ints), omega (arith, ints)))
 
 pub returns-in_err-sum : goal.returns-in_err-sum
 returns-in_err-sum g c =
