@@ -1,15 +1,18 @@
 // Telling an hour's energies.
-ghost use Rattle.std.specs.Prelude.{◌≡◌, ◌<◌, ◌≤◌, List, length, replicate, sum, slice_index, slice_set};
+ghost use Rattle.std.specs.Prelude.{◌≡◌, ◌<◌, ◌≤◌, List, length, replicate, sum, slice_index, slice_index_or, slice_set};
 ghost use Rattle.refusal.specs.Tests.{first_of};
 ghost use Rattle.table.specs.Lines.{ResourceLine};
 ghost use Rattle.table.specs.Tables.{filled};
 ghost use Rattle.book.specs.Telling.{energies_tests, energies_of};
-ghost use Rattle.book.specs.Calls.{with_energies, refusal, step};
+ghost use Rattle.book.specs.Hours.{told_anew};
+ghost use Rattle.book.specs.Calls.{refusal, step};
 ghost use Rattle.book.specs.Calls.Call.{tell};
 ghost use Rattle.book.specs.Seen.{seen, granted_or};
 
 use crate::book::Book;
 use crate::energies::Energies;
+use crate::hour::Hour;
+use crate::month_hour::{HourNumber, MonthHour};
 use refusal::Refusal;
 use table::lines::{BuyerLine, ResourceLine};
 
@@ -64,12 +67,12 @@ fn energies(buyers: u32, total: u32, others: &[u32]) -> Result<Energies, Refusal
 
 impl Book {
     // Notes an hour's energies.
-    fn tell_hour(&mut self, h: u32, energies: Energies)
-        requires { h < 744 }
-        ensures book { (lines : List ResourceLine) (charges : List BuyerLine) → seen self.new lines charges ≡ with_energies (seen self.old lines charges) h energies }
+    fn tell_hour(&mut self, h: HourNumber, energies: Energies)
+        ensures register { self.new.register ≡ self.old.register }
+        ensures hours { self.new.hours ≡ slice_set self.old.hours h.number (told_anew (slice_index_or self.old.hours h.number Hour.Blank) energies) }
     {
-        let place = h as usize;
-        self.hours[place] = self.hours[place].told(energies);
+        let hour = &mut self.hours[h.number as usize];
+        *hour = hour.told(energies);
     }
 
     // Tells the energies of an hour that is not allotted; they replace those told before.
@@ -77,23 +80,16 @@ impl Book {
         &mut self,
         lines: &[ResourceLine],
         charges: &[BuyerLine],
-        day: u32,
-        hour: u32,
+        at: MonthHour,
         total: u32,
         others: &[u32],
     ) -> Result<(), Refusal>
-        ensures answer { result ≡ granted_or (refusal (tell day hour total others.now) (seen self.old lines.now charges.now)) tt }
-        ensures book { seen self.new lines.now charges.now ≡ (step (tell day hour total others.now) (seen self.old lines.now charges.now)).1 }
+        ensures answer { result ≡ granted_or (refusal (tell at.day at.hour total others.now) (seen self.old lines.now charges.now)) tt }
+        ensures book { seen self.new lines.now charges.now ≡ (step (tell at.day at.hour total others.now) (seen self.old lines.now charges.now)).1 }
     {
-        match self.telling_place(lines, charges, day, hour) {
-            Ok(h) => match energies(self.register.buyers, total, others) {
-                Ok(told) => {
-                    self.tell_hour(h, told);
-                    Ok(())
-                }
-                Err(refusal) => Err(refusal),
-            },
-            Err(refusal) => Err(refusal),
-        }
+        let h = self.telling_place(lines, charges, at)?;
+        let told = energies(self.register.buyers, total, others)?;
+        self.tell_hour(h, told);
+        Ok(())
     }
 }
