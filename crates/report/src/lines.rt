@@ -1,5 +1,5 @@
 // What the numbers of a line say, or what is wrong with them.
-ghost use Rattle.std.specs.Prelude.{◌≡◌, ◌+◌, ◌-◌, ◌<◌, ◌≤◌, length, replicate, IfOk, if◌then◌else◌, Some, None, sum, OnOk, nat_le};
+ghost use Rattle.std.specs.Prelude.{◌≡◌, ◌+◌, ◌-◌, ◌<◌, ◌≤◌, length, replicate, IfOk, if◌then◌else◌, Ok, Err, sum, OnOk, nat_le};
 ghost use Rattle.report.specs.Lines.{only_number, days_marked, start_marked, written, first_hour, hour_place, place_for, place_in, mark_in, marks_written, settling_in, purchased, purchases_in};
 
 use crate::fault::Fault;
@@ -19,9 +19,6 @@ const HOURS: u32 = 24;
 // Readings of one customer: one before the first hour, and one at the end of each.
 const READINGS: u32 = 2305;
 
-// A settle line has this many numbers before its marks.
-const TERMS: usize = 9;
-
 // The greatest total of an hour's energies, in kWh.
 const MOST_ENERGY: u32 = 150_000_000;
 
@@ -32,12 +29,8 @@ pub(crate) fn only_number(numbers: &[u32], low: u32, high: u32) -> Result<u32, F
 {
     match numbers {
         [] => Err(Fault::TooFewNumbers),
-        [number] => {
-            if *number < low || *number > high {
-                return Err(Fault::OutOfRange);
-            }
-            Ok(*number)
-        }
+        [number] if *number < low || *number > high => Err(Fault::OutOfRange),
+        [number] => Ok(*number),
         _ => Err(Fault::TooManyNumbers),
     }
 }
@@ -120,10 +113,10 @@ pub(crate) fn place_of(meter: Meter, numbers: &[u32]) -> Result<usize, Fault>
     ensures bounded { IfOk result (λ p. p + (length numbers.now - 3) ≤ 36880) }
     ensures some { OnOk result (3 ≤ length numbers.now) }
 {
-    if numbers.len() < 4 {
+    let [customer, day, hour, _, ..] = numbers else {
         return Err(Fault::TooFewNumbers);
-    }
-    place_for(meter, numbers[0], numbers[1], numbers[2], numbers.len() - 3)
+    };
+    place_for(meter, *customer, *day, *hour, numbers.len() - 3)
 }
 
 // A mark: 0 or 1.
@@ -144,10 +137,7 @@ fn marks_of(numbers: &[u32]) -> Result<[u8; 16], Fault>
 {
     let mut marks = [0; 16];
     for (k, number) in numbers.iter().enumerate() {
-        if *number > 1 {
-            return Err(Fault::OutOfRange);
-        }
-        marks[k] = *number as u8;
+        marks[k] = u8::from(mark_of(*number)?);
     }
     Ok(marks)
 }
@@ -156,56 +146,48 @@ fn marks_of(numbers: &[u32]) -> Result<[u8; 16], Fault>
 pub(crate) fn settling_of(numbers: &[u32]) -> Result<Settling, Fault>
     ensures value { result ≡ settling_in numbers.now }
 {
-    if numbers.len() < TERMS {
+    let [
+        hour,
+        kind,
+        month,
+        plan,
+        order,
+        emergency,
+        test,
+        smp,
+        mgp,
+        marks @ ..,
+    ] = numbers
+    else {
         return Err(Fault::TooFewNumbers);
-    }
-    if numbers.len() > TERMS + 16 {
+    };
+    if marks.len() > 16 {
         return Err(Fault::TooManyNumbers);
     }
-    let Some(kind) = Kind::numbered(numbers[1]) else {
-        return Err(Fault::OutOfRange);
-    };
-    let emergency = mark_of(numbers[5])?;
-    let test = mark_of(numbers[6])?;
-    let marks = marks_of(&numbers[9..])?;
+    let kind = Kind::numbered(*kind).ok_or(Fault::OutOfRange)?;
     Ok(Settling {
-        hour: numbers[0],
+        hour: *hour,
         kind,
-        month: numbers[2],
+        month: *month,
         terms: Terms {
-            plan: numbers[3],
-            order: numbers[4],
-            emergency,
-            test,
-            smp: numbers[7],
-            mgp: numbers[8],
+            plan: *plan,
+            order: *order,
+            emergency: mark_of(*emergency)?,
+            test: mark_of(*test)?,
+            smp: *smp,
+            mgp: *mgp,
         },
-        marks,
+        marks: marks_of(marks)?,
     })
 }
 
-// What is left of a total, or none if more was taken than there is.
-fn rest_of(total: u32, taken: &[u32]) -> Option<u32>
-    ensures value { result ≡ (if nat_le (sum taken.now) total then Some (total - sum taken.now) else None) }
+// What is left of a total when numbers are taken from it, of which it must have enough.
+fn rest_of(total: u32, taken: &[u32]) -> Result<u32, Fault>
+    ensures value { result ≡ (if nat_le (sum taken.now) total then Ok (total - sum taken.now) else Err Fault.OutOfRange) }
 {
-    let mut rest = total;
-    for number in taken {
-        if *number > rest {
-            return None;
-        }
-        rest -= *number;
-    }
-    Some(rest)
-}
-
-// Writes numbers one behind another from a place on.
-pub(crate) fn write_from(table: &mut [u32], place: usize, values: &[u32])
-    requires room { place + length values.now ≤ length table.old }
-    ensures value { table.new ≡ written place values.now table.old }
-{
-    for (k, value) in values.iter().enumerate() {
-        table[place + k] = *value;
-    }
+    taken.iter().try_fold(total, |rest, number| {
+        rest.checked_sub(*number).ok_or(Fault::OutOfRange)
+    })
 }
 
 // The retailer's purchase, then those of at most 7 others.
@@ -215,7 +197,7 @@ fn purchased(rest: u32, others: &[u32]) -> Purchases
 {
     let mut bought = [0; 8];
     bought[0] = rest;
-    write_from(&mut bought, 1, others);
+    bought[1..=others.len()].copy_from_slice(others);
     Purchases {
         bought,
         buyers: others.len() + 1,
@@ -235,8 +217,6 @@ pub(crate) fn purchases_of(numbers: &[u32]) -> Result<Purchases, Fault>
     if *total < 1 || *total > MOST_ENERGY {
         return Err(Fault::OutOfRange);
     }
-    let Some(rest) = rest_of(*total, others) else {
-        return Err(Fault::OutOfRange);
-    };
+    let rest = rest_of(*total, others)?;
     Ok(purchased(rest, others))
 }
