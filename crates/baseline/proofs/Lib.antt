@@ -1,6 +1,5 @@
 pub mod Counts
 pub mod Left
-pub mod Means
 pub mod Named
 pub mod Orders
 pub mod Ranks

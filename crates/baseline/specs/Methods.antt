@@ -7,6 +7,10 @@ use Rattle.refusal.specs.declared.Refusal.{Refusal}
 use Rattle.refusal.specs.declared.Refusal.TheVariants.{UnknownMethod}
 use Rattle.baseline.specs.declared.method.Method.{Method}
 
+-- the same method for holidays
+abbrev pub on_holidays : Method → Method
+on_holidays k = record { class = Holiday; n = k.n; high = k.high; low = k.low; reach = k.reach; few = k.few; kept = k.kept }
+
 -- text; class of the days, n reference days, high and low struck, reach of the search
 abbrev pub methods : List (List ℕ × Method)
 methods =

@@ -1,29 +1,21 @@
 -- The reference days of a customer: which days are looked at, and which are chosen.
-use Rattle.std.specs.Prelude.{ℕ, zero, suc, Bool, true, false, cond, List, [], ◌∷◌, take, None, filter, Option}
+use Rattle.std.specs.Prelude.{ℕ, zero, suc, Bool, cond, List, [], ◌∷◌, take, None, filter, Option}
 use Rattle.std.specs.Option.{option_map, option_to_list}
 use Rattle.std.specs.List.{flat_map}
 use Rattle.load.specs.declared.loads.DayClass.{DayClass}
-use Rattle.load.specs.declared.loads.DayClass.TheVariants.{Workday, Holiday, Neither}
+use Rattle.load.specs.contracts.loads.DayClassPartialEq.TheImpl as class_eq
 use Rattle.load.specs.Meaning.{LoadMeaning}
 use Rattle.baseline.specs.declared.method.Method.{Method}
 use Rattle.baseline.specs.declared.reference.Reference.{Reference}
-use Rattle.baseline.specs.declared.reference.References.{References}
 
 -- the days before d, newest first
 abbrev pub days_before : ℕ → List ℕ
 days_before zero = []
 days_before (suc d) = d ∷ days_before d
 
+-- what `==` says of two classes
 abbrev pub same_class : DayClass → DayClass → Bool
-same_class Workday Workday = true
-same_class Workday Holiday = false
-same_class Workday Neither = false
-same_class Holiday Workday = false
-same_class Holiday Holiday = true
-same_class Holiday Neither = false
-same_class Neither Workday = false
-same_class Neither Holiday = false
-same_class Neither Neither = true
+same_class = (class_eq.ghosts).eq
 
 -- the days of a class before d, newest first
 abbrev pub class_before : LoadMeaning → DayClass → ℕ → List ℕ
@@ -40,7 +32,3 @@ references_on m c h days = flat_map (λ day. option_to_list (reference_on m c h 
 -- of the nearest `reach` days of the class before d, standing or not, the first n that stand and have a load in hour h
 abbrev pub reference_days : LoadMeaning → Method → ℕ → ℕ → ℕ → List Reference
 reference_days m k c d h = take k.n (references_on m c h (take k.reach (class_before m k.class d)))
-
--- the days that a table of at most ten holds
-abbrev pub listed : References → List Reference
-listed r = take r.count r.days

@@ -1,32 +1,75 @@
 // The methods by their texts.
 ghost use Rattle.std.specs.Prelude.{◌≡◌};
-ghost use Rattle.baseline.specs.Methods.{method_or_refusal};
+ghost use Rattle.baseline.specs.Methods.{on_holidays, method_or_refusal};
 
 use crate::method::Method;
 use load::loads::DayClass;
 use refusal::Refusal;
+use std::str::FromStr;
+
+const MAX45: Method = Method {
+    class: DayClass::Workday,
+    n: 5,
+    high: 0,
+    low: 1,
+    reach: 10,
+};
+
+const MID610: Method = Method {
+    class: DayClass::Workday,
+    n: 10,
+    high: 2,
+    low: 2,
+    reach: 20,
+};
+
+const MID46: Method = Method {
+    class: DayClass::Workday,
+    n: 6,
+    high: 1,
+    low: 1,
+    reach: 12,
+};
+
+const MID810: Method = Method {
+    class: DayClass::Workday,
+    n: 10,
+    high: 1,
+    low: 1,
+    reach: 20,
+};
 
 impl Method {
-    // The method that a text calls for; any other text is refused.
-    pub fn named(text: &str) -> Result<Method, Refusal>
-        ensures value { result ≡ method_or_refusal text.now }
+    // The same method for holidays.
+    fn on_holidays(self) -> Method
+        ensures value { result ≡ on_holidays self }
     {
-        let (class, n, high, low, reach) = match text {
-            "max45" => (DayClass::Workday, 5, 0, 1, 10),
-            "mid610" => (DayClass::Workday, 10, 2, 2, 20),
-            "mid46" => (DayClass::Workday, 6, 1, 1, 12),
-            "mid810" => (DayClass::Workday, 10, 1, 1, 20),
-            "hmax45" => (DayClass::Holiday, 5, 0, 1, 10),
-            "hmid610" => (DayClass::Holiday, 10, 2, 2, 20),
-            "hmid46" => (DayClass::Holiday, 6, 1, 1, 12),
-            _ => return Err(Refusal::UnknownMethod),
-        };
-        Ok(Method {
-            class,
-            n,
-            high,
-            low,
-            reach,
-        })
+        Method {
+            class: DayClass::Holiday,
+            n: self.n,
+            high: self.high,
+            low: self.low,
+            reach: self.reach,
+        }
+    }
+}
+
+// The method that a text calls for; any other text is refused.
+impl FromStr for Method {
+    type Err = Refusal;
+
+    ghost from_str_gives = { λ text r. r ≡ method_or_refusal text };
+
+    fn from_str(text: &str) -> Result<Method, Refusal> {
+        match text {
+            "max45" => Ok(MAX45),
+            "mid610" => Ok(MID610),
+            "mid46" => Ok(MID46),
+            "mid810" => Ok(MID810),
+            "hmax45" => Ok(MAX45.on_holidays()),
+            "hmid610" => Ok(MID610.on_holidays()),
+            "hmid46" => Ok(MID46.on_holidays()),
+            _ => Err(Refusal::UnknownMethod),
+        }
     }
 }

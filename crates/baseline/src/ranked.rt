@@ -1,16 +1,14 @@
 // The ranked source over any load record: the mean load of the reference days that are left.
 ghost use Rattle.std.specs.Prelude.{◌≡◌, ◌*◌, ◌<◌, ◌≤◌, length, IfOk};
 ghost use Rattle.baseline.specs.Profile.{rounded_mean, mean_load, profile_of};
-ghost use Rattle.baseline.specs.Reference.{reference_on, reference_days, listed};
+ghost use Rattle.baseline.specs.Reference.{reference_on, reference_days};
 ghost use Rattle.baseline.specs.Sources.{ranked_source};
-ghost use Rattle.baseline.specs.Striking.{unstruck};
 
 use crate::method::Method;
 use crate::reference::{Reference, References};
 use crate::source::BaselineSource;
-use crate::striking::is_left;
 use load::loads::LoadRecord;
-use load::places::{is_hour, is_in_range};
+use load::places::{CustomerHour, is_hour};
 use refusal::Cause;
 
 // One half is added to the quotient, and the fraction dropped.
@@ -50,101 +48,90 @@ impl<R: LoadRecord> Ranked<R> {
     }
 
     // The day as a reference day, if it stands and has a load in the hour.
-    fn reference_on(&self, customer: u32, day: u32, hour: u32) -> Option<Reference>
-        ensures value { result ≡ reference_on (R.meaning self.now.loads) customer hour day }
+    fn reference_on(&self, asked: CustomerHour) -> Option<Reference>
+        ensures value { result ≡ reference_on (R.meaning self.now.loads) asked.customer asked.hour asked.day }
     {
-        if !self.loads.stands(customer, day) {
+        if !self.loads.stands(asked.customer, asked.day) {
             return None;
         }
-        let load = self.loads.load(customer, day, hour)?;
-        Some(Reference { day, load })
+        let load = self.loads.load(asked)?;
+        Some(Reference {
+            day: asked.day,
+            load,
+        })
     }
 
     // The reference days before a day, newest first.
-    fn reference_days(&self, customer: u32, day: u32, hour: u32) -> References
-        ensures value { listed result ≡ reference_days (R.meaning self.now.loads) self.now.method customer day hour }
+    #[tactic(auto, using(crate::proofs::Search::ahead_other, crate::proofs::Search::ahead_none, crate::proofs::Search::ahead_some))]
+    fn reference_days(&self, asked: CustomerHour) -> References
+        ensures value { result.items ≡ reference_days (R.meaning self.now.loads) self.now.method asked.customer asked.day asked.hour }
     {
-        let mut days = [Reference { day: 0, load: 0 }; 10];
-        let mut count = 0;
+        let mut days = References::new();
         let mut left = self.method.reach;
-        'search: for past in (0..day).rev() {
-            if count == self.method.n || left == 0 {
+        'search: for past in (0..asked.day).rev() {
+            if days.len() == self.method.n || left == 0 {
                 break 'search;
             }
             if self.loads.class(past) == self.method.class {
                 left -= 1;
-                if let Some(reference) = self.reference_on(customer, past, hour) {
-                    days[count] = reference;
-                    count += 1;
+                if let Some(reference) = self.reference_on(CustomerHour { day: past, ..asked }) {
+                    days.push(reference);
                 }
             }
         }
-        References { days, count }
+        days
     }
 
-    // The rounded mean in an hour of the days that are left once the `low` lowest and the `high` highest are struck.
-    fn mean_of_left(
-        &self,
-        customer: u32,
-        hour: u32,
-        days: &[Reference],
-        low: usize,
-        high: usize,
-    ) -> Result<u32, Cause>
-        requires few { length days.now ≤ 10 }
-        requires some { 0 < length (unstruck low high days.now) }
-        ensures value { result ≡ mean_load (R.meaning self.now.loads) customer hour (unstruck low high days.now) }
+    // The rounded mean in an hour over some days.
+    fn mean_over(&self, asked: CustomerHour, days: &References) -> Result<u32, Cause>
+        requires some { 0 < length days.now.items }
+        ensures value { result ≡ mean_load (R.meaning self.now.loads) asked.customer asked.hour days.now.items }
         ensures bounded { IfOk result (λ v. v ≤ 20000000) }
     {
         let mut sum = 0;
-        let mut count = 0;
-        for x in days {
-            if is_left(days, low, high, x) {
-                let Some(load) = self.loads.load(customer, x.day, hour) else {
-                    return Err(Cause::MissingLoad);
-                };
-                sum += u64::from(load);
-                count += 1;
-            }
+        for x in days.iter() {
+            let load = self
+                .loads
+                .load(CustomerHour {
+                    day: x.day,
+                    ..asked
+                })
+                .ok_or(Cause::MissingLoad)?;
+            sum += u64::from(load);
         }
-        Ok(rounded_mean_of(sum, count))
+        Ok(rounded_mean_of(sum, days.len() as u64))
     }
 
-    // The mean in hour `at` over the days chosen for `hour`.
-    fn mean_of_days(&self, customer: u32, day: u32, hour: u32, at: u32) -> Result<u32, Cause>
-        ensures value { result ≡ profile_of (R.meaning self.now.loads) self.now.method customer day hour at }
+    // The mean in hour `at` over the days chosen for the hour asked.
+    #[tactic(auto, using(crate::proofs::Left::count_left))]
+    fn mean_of_days(&self, asked: CustomerHour, at: u32) -> Result<u32, Cause>
+        ensures value { result ≡ profile_of (R.meaning self.now.loads) self.now.method asked.customer asked.day asked.hour at }
         ensures bounded { IfOk result (λ v. v ≤ 20000000) }
     {
-        if !is_in_range(customer, day, hour) || !is_hour(at) {
+        if !asked.is_in_range() || !is_hour(at) {
             return Err(Cause::OutOfRange);
         }
-        let found = self.reference_days(customer, day, hour);
-        if found.count < self.method.n {
+        let days = self.reference_days(asked);
+        if days.len() < self.method.n {
             return Err(Cause::TooFewDays);
         }
-        self.mean_of_left(
-            customer,
-            at,
-            &found.days[0..found.count],
-            self.method.low,
-            self.method.high,
-        )
+        self.mean_over(asked.in_hour(at), &self.method.left_of(&days))
     }
 }
 
 impl<R: LoadRecord> BaselineSource for Ranked<R> {
     ghost meaning = { λ x. ranked_source (R.LoadRecord.meaning x.loads) x.method };
 
-    fn metered(&self, customer: u32, day: u32, hour: u32) -> Option<u32> {
-        self.loads.load(customer, day, hour)
+    fn metered(&self, asked: CustomerHour) -> Option<u32> {
+        self.loads.load(asked)
     }
 
-    fn profile(&self, customer: u32, day: u32, hour: u32, at: u32) -> Result<u32, Cause> {
-        self.mean_of_days(customer, day, hour, at)
+    fn profile(&self, asked: CustomerHour, at: u32) -> Result<u32, Cause> {
+        self.mean_of_days(asked, at)
     }
 
-    fn baseline(&self, customer: u32, day: u32, hour: u32) -> Result<i32, Cause> {
-        let mean = self.mean_of_days(customer, day, hour, hour)?;
+    fn baseline(&self, asked: CustomerHour) -> Result<i32, Cause> {
+        let mean = self.mean_of_days(asked, asked.hour)?;
         Ok(mean as i32)
     }
 }

@@ -1,17 +1,13 @@
 // Reference days.
-ghost use Rattle.std.specs.Prelude.{◌≤◌};
+use arrayvec::ArrayVec;
 
 // A reference day, with its load in Wh in the hour that it was chosen for.
-#[derive(Clone, Copy)]
+// Days rank by load, and of equal loads the older day ranks lower, as the fields stand.
+#[derive(Clone, Copy, Default, PartialEq, Eq, PartialOrd, Ord)]
 pub struct Reference {
-    pub day: u32,
     pub load: u32,
+    pub day: u32,
 }
 
 // At most ten reference days, newest first.
-#[derive(Clone, Copy)]
-pub struct References {
-    pub days: [Reference; 10],
-    pub count: usize,
-    ghost few: { count ≤ 10 },
-}
+pub type References = ArrayVec<Reference, 10>;

@@ -3,13 +3,10 @@ ghost use Rattle.std.specs.Prelude.{◌≡◌};
 ghost use Rattle.load.specs.Records.{counted, register_record};
 
 use crate::loads::{DayClass, LoadRecord};
-use crate::places::{class_in, is_customer_day, is_in_range, number_at, plausible_load};
+use crate::places::{CustomerHour, HOURS, class_in, is_customer_day, plausible_load};
 
 // A customer has one reading before the first hour, and one at the end of each.
-const READINGS: usize = 2305;
-
-// Hours of a day.
-const HOURS: usize = 24;
+const READINGS: u32 = 2305;
 
 // A register goes round at this many Wh.
 const ROUND: u32 = 1_000_000_000;
@@ -37,16 +34,17 @@ fn counted_between(before: Option<u32>, after: Option<u32>) -> Option<u32>
 impl LoadRecord for RegisterRecord<'_> {
     ghost meaning = { λ x. register_record x.readings.now x.classes.now };
 
-    fn load(&self, customer: u32, day: u32, hour: u32) -> Option<u32> {
-        if !is_in_range(customer, day, hour) {
+    fn load(&self, asked: CustomerHour) -> Option<u32> {
+        if !asked.is_in_range() {
             return None;
         }
-        let place = customer as usize * READINGS + day as usize * HOURS + hour as usize;
-        let before = number_at(self.readings, place - 1);
-        let after = number_at(self.readings, place);
+        let place = (asked.customer * READINGS + asked.day * HOURS + asked.hour) as usize;
+        let before = self.readings.get(place - 1).copied();
+        let after = self.readings.get(place).copied();
         plausible_load(counted_between(before, after))
     }
 
+    // Stays: (a) the record interface has two implementations; both only call what is shared.
     fn class(&self, day: u32) -> DayClass {
         class_in(self.classes, day)
     }

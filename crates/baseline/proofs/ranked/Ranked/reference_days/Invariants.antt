@@ -1,4 +1,4 @@
-use Rattle.std.proofs.Common.{◌≡◌, ◌-◌, ◌≤◌, ◌++◌, length, take}
+use Rattle.std.proofs.Common.{◌≡◌, ◌-◌, ◌≤◌, ◌++◌, length}
 use Rattle.baseline.specs.Reference.{reference_days}
 use Rattle.baseline.proofs.Search.{ahead}
 use Rattle.baseline.proofs.ranked.Ranked.reference_days.Given as goal
@@ -7,6 +7,7 @@ abbrev pub invariant-search : goal.invariant-search
 invariant-search g l =
     let m = g.R.LoadRecord.meaning l.self.loads in
     let k = l.self.method in
-    (l.count ≤ k.n)
-    × (length l.days ≡ 10)
-    × (take l.count l.days ++ ahead m k.class l.customer l.hour (k.n - l.count) l.left l.past ≡ reference_days m k l.customer l.day l.hour)
+    record {
+      few : length l.days.items ≤ k.n;
+      found : l.days.items ++ ahead m k.class l.asked.customer l.asked.hour (k.n - length l.days.items) l.left l.past ≡ reference_days m k l.asked.customer l.asked.day l.asked.hour;
+    }
