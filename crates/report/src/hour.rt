@@ -6,8 +6,7 @@ ghost use Rattle.share.specs.Shares.{shared};
 use baseline::source::BaselineSource;
 use load::loads::DayClass;
 use refusal::Refusal;
-use settlement::settle::settle_line;
-use settlement::terms::{Kind, Line, Portfolio, Slot, Terms};
+use settlement::terms::{Kind, Line, Portfolio, ResourceHour, Slot, Terms};
 use share::share_out;
 
 // What a text asks to be settled: an hour, and who takes part in its plan.
@@ -38,17 +37,20 @@ impl Settling {
     ) -> Result<Line, Refusal>
         ensures value { result ≡ settled (S.meaning source.now) (S.meaning source.now) self.now.marks (record { kind = self.now.kind; customers = customers }) (record { month = self.now.month; class = class; day = day; hour = self.now.hour }) self.now.terms }
     {
-        let portfolio = Portfolio {
-            kind: self.kind,
-            customers,
+        let asked = ResourceHour {
+            portfolio: Portfolio {
+                kind: self.kind,
+                customers,
+            },
+            slot: Slot {
+                month: self.month,
+                class,
+                day,
+                hour: self.hour,
+            },
+            terms: self.terms,
         };
-        let slot = Slot {
-            month: self.month,
-            class,
-            day,
-            hour: self.hour,
-        };
-        settle_line(source, source, &self.marks, portfolio, slot, self.terms)
+        asked.settle(source, source, &self.marks)
     }
 }
 

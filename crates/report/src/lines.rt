@@ -164,7 +164,7 @@ pub(crate) fn settling_of(numbers: &[u32]) -> Result<Settling, Fault>
     if marks.len() > 16 {
         return Err(Fault::TooManyNumbers);
     }
-    let kind = Kind::numbered(*kind).ok_or(Fault::OutOfRange)?;
+    let kind = Kind::try_from(*kind).map_err(|_| Fault::OutOfRange)?;
     Ok(Settling {
         hour: *hour,
         kind,
