@@ -3,6 +3,7 @@ ghost use Rattle.std.specs.Prelude.{◌≡◌};
 ghost use Rattle.settlement.specs.Settle.{settled};
 ghost use Rattle.share.specs.Shares.{shared};
 
+use arrayvec::ArrayVec;
 use baseline::source::BaselineSource;
 use load::loads::DayClass;
 use refusal::Refusal;
@@ -20,10 +21,9 @@ pub struct Settling {
 }
 
 // What each buyer purchased in the hour, in kWh, the retailer first.
-#[derive(Clone, Copy)]
+#[derive(Drop)]
 pub struct Purchases {
-    pub bought: [u32; 8],
-    pub buyers: usize,
+    pub bought: ArrayVec<u32, 8>,
 }
 
 impl Settling {
@@ -57,8 +57,8 @@ impl Settling {
 impl Purchases {
     // Each buyer's share of an amount of won, by the purchases.
     pub fn shares_of(&self, amount: i64) -> Option<[i64; 16]>
-        ensures value { result ≡ shared amount self.now.bought }
+        ensures value { result ≡ shared amount self.now.bought.items }
     {
-        share_out(amount, &self.bought)
+        share_out(amount, self.bought.as_slice())
     }
 }

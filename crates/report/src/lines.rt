@@ -1,10 +1,12 @@
 // What the numbers of a line say, or what is wrong with them.
-ghost use Rattle.std.specs.Prelude.{◌≡◌, ◌+◌, ◌-◌, ◌<◌, ◌≤◌, length, replicate, IfOk, if◌then◌else◌, Ok, Err, sum, OnOk, nat_le};
-ghost use Rattle.report.specs.Lines.{only_number, days_marked, start_marked, written, first_hour, hour_place, place_for, place_in, mark_in, marks_written, settling_in, purchased, purchases_in};
+ghost use Rattle.std.specs.Prelude.{◌≡◌, ◌+◌, ◌-◌, ◌<◌, ◌≤◌, length, replicate, IfOk, if◌then◌else◌, Some, None, Ok, Err, sum, OnOk, nat_le};
+ghost use Rattle.report.specs.Lines.{only_number, days_marked, start_marked, written, has_hour, hour_place, place_for, place_in, mark_in, marks_written, settling_in, purchased, purchases_in};
 
 use crate::fault::Fault;
 use crate::hour::{Purchases, Settling};
 use crate::meter::Meter;
+use arrayvec::ArrayVec;
+use load::places::{CustomerHour, is_customer_day, is_hour};
 use settlement::terms::{Kind, Terms};
 
 // Customers are 0 to 15.
@@ -58,7 +60,7 @@ pub(crate) fn start_marked(mut table: [u8; 96], numbers: &[u32]) -> Result<[u8; 
     match numbers {
         [] | [_] => Err(Fault::TooFewNumbers),
         [day, hour] => {
-            if *day >= DAYS || *hour < 1 || *hour > HOURS {
+            if *day >= DAYS || !is_hour(*hour) {
                 return Err(Fault::OutOfRange);
             }
             table[*day as usize] = *hour as u8;
@@ -68,43 +70,29 @@ pub(crate) fn start_marked(mut table: [u8; 96], numbers: &[u32]) -> Result<[u8; 
     }
 }
 
-// The first hour that a meter's numbers are of; a reading of hour 0 stands at the day's begin.
-fn first_hour(meter: Meter) -> u32
-    ensures value { result ≡ first_hour meter }
+// Where the number of a customer's hour lies; a reading of hour 0 stands at the day's begin.
+fn hour_place(meter: Meter, at: CustomerHour) -> Option<usize>
+    ensures value { result ≡ (if has_hour meter at.customer at.day at.hour then Some (hour_place meter at.customer at.day at.hour) else None) }
 {
     match meter {
-        Meter::Loads => 1,
-        Meter::Readings => 0,
+        Meter::Loads => at.place(),
+        Meter::Readings if is_customer_day(at.customer, at.day) && at.hour <= HOURS => {
+            Some((at.customer * READINGS + at.day * HOURS + at.hour) as usize)
+        }
+        Meter::Readings => None,
     }
-}
-
-// Where the number of a customer's hour lies.
-fn hour_place(meter: Meter, customer: u32, day: u32, hour: u32) -> usize
-    requires customer { customer < 16 }
-    requires day { day < 96 }
-    requires first { first_hour meter ≤ hour }
-    requires last { hour ≤ 24 }
-    ensures value { result ≡ hour_place meter customer day hour }
-{
-    let place = match meter {
-        Meter::Loads => (customer * DAYS + day) * HOURS + hour - 1,
-        Meter::Readings => customer * READINGS + day * HOURS + hour,
-    };
-    place as usize
 }
 
 // The place of the first of some numbers of a customer's day, at most to hour 24.
-fn place_for(meter: Meter, customer: u32, day: u32, hour: u32, count: usize) -> Result<usize, Fault>
-    ensures value { result ≡ place_for meter customer day hour count }
+fn place_for(meter: Meter, first: CustomerHour, count: usize) -> Result<usize, Fault>
+    ensures value { result ≡ place_for meter first.customer first.day first.hour count }
     ensures bounded { IfOk result (λ p. p + count ≤ 36880) }
 {
-    if customer >= CUSTOMERS || day >= DAYS || hour < first_hour(meter) || hour > HOURS {
-        return Err(Fault::OutOfRange);
-    }
-    if count > (HOURS + 1 - hour) as usize {
+    let place = hour_place(meter, first).ok_or(Fault::OutOfRange)?;
+    if count > (HOURS + 1 - first.hour) as usize {
         return Err(Fault::TooManyNumbers);
     }
-    Ok(hour_place(meter, customer, day, hour))
+    Ok(place)
 }
 
 // The place for a line of customer, day, hour, and numbers from that hour on.
@@ -116,7 +104,12 @@ pub(crate) fn place_of(meter: Meter, numbers: &[u32]) -> Result<usize, Fault>
     let [customer, day, hour, _, ..] = numbers else {
         return Err(Fault::TooFewNumbers);
     };
-    place_for(meter, *customer, *day, *hour, numbers.len() - 3)
+    let first = CustomerHour {
+        customer: *customer,
+        day: *day,
+        hour: *hour,
+    };
+    place_for(meter, first, numbers.len() - 3)
 }
 
 // A mark: 0 or 1.
@@ -195,13 +188,10 @@ fn purchased(rest: u32, others: &[u32]) -> Purchases
     requires few { length others.now ≤ 7 }
     ensures value { result ≡ purchased rest others.now }
 {
-    let mut bought = [0; 8];
-    bought[0] = rest;
-    bought[1..=others.len()].copy_from_slice(others);
-    Purchases {
-        bought,
-        buyers: others.len() + 1,
-    }
+    let mut bought = ArrayVec::new();
+    bought.push(rest);
+    bought.try_extend_from_slice(others).unwrap();
+    Purchases { bought }
 }
 
 // A total, then what each buyer but the retailer purchased of it; the rest is the retailer's.

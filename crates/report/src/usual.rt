@@ -16,10 +16,7 @@ pub struct Usual {
 }
 
 // The usual load of a customer's hour, or why there is none.
-pub fn usual_load<S: BaselineSource>(
-    source: &S,
-    asked: CustomerHour,
-) -> Result<Usual, Cause>
+pub fn usual_load<S: BaselineSource>(source: &S, asked: CustomerHour) -> Result<Usual, Cause>
     ensures value { result ≡ usual_of (S.meaning source.now) asked.customer asked.day asked.hour }
 {
     let baseline = source.baseline(asked)?;
