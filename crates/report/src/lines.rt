@@ -31,7 +31,7 @@ pub(crate) fn only_number(numbers: &[u32], low: u32, high: u32) -> Result<u32, F
 {
     match numbers {
         [] => Err(Fault::TooFewNumbers),
-        [number] if *number < low || *number > high => Err(Fault::OutOfRange),
+        [number] if !(low..=high).contains(number) => Err(Fault::OutOfRange),
         [number] => Ok(*number),
         _ => Err(Fault::TooManyNumbers),
     }
@@ -113,6 +113,7 @@ pub(crate) fn place_of(meter: Meter, numbers: &[u32]) -> Result<usize, Fault>
 }
 
 // A mark: 0 or 1.
+// Stays: (d) the library has no conversion of a number to a `bool`.
 fn mark_of(number: u32) -> Result<bool, Fault>
     ensures value { result ≡ mark_in number }
 {
@@ -124,6 +125,7 @@ fn mark_of(number: u32) -> Result<bool, Fault>
 }
 
 // At most 16 marks, 0 where there is none.
+// Stays: (c) over `marks.iter_mut().zip(numbers)` nothing is known of the marks after the loop.
 fn marks_of(numbers: &[u32]) -> Result<[u8; 16], Fault>
     requires few { length numbers.now ≤ 16 }
     ensures value { result ≡ marks_written 0 numbers.now (replicate 16 0) }
