@@ -206,7 +206,7 @@ pub(crate) fn purchases_of(numbers: &[u32]) -> Result<Purchases, Fault>
     if others.len() > 7 {
         return Err(Fault::TooManyNumbers);
     }
-    if *total < 1 || *total > MOST_ENERGY {
+    if !(1..=MOST_ENERGY).contains(total) {
         return Err(Fault::OutOfRange);
     }
     let rest = rest_of(*total, others)?;
