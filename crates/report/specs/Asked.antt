@@ -39,31 +39,6 @@ unread = replicate 36880 4294967295
 abbrev pub nothing_asked : Asked
 nothing_asked = record { day = None; customers = 1; classes = replicate 96 2; left_out = replicate 96 0; starts = replicate 96 0; meter = None; numbers = unread; settling = None; purchases = None }
 
--- one part said anew
-abbrev pub of_day : Asked → ℕ → Asked
-of_day a d = record { day = Some d; customers = a.customers; classes = a.classes; left_out = a.left_out; starts = a.starts; meter = a.meter; numbers = a.numbers; settling = a.settling; purchases = a.purchases }
-
-abbrev pub with_customers : Asked → ℕ → Asked
-with_customers a n = record { day = a.day; customers = n; classes = a.classes; left_out = a.left_out; starts = a.starts; meter = a.meter; numbers = a.numbers; settling = a.settling; purchases = a.purchases }
-
-abbrev pub with_classes : Asked → List ℕ → Asked
-with_classes a table = record { day = a.day; customers = a.customers; classes = table; left_out = a.left_out; starts = a.starts; meter = a.meter; numbers = a.numbers; settling = a.settling; purchases = a.purchases }
-
-abbrev pub with_left_out : Asked → List ℕ → Asked
-with_left_out a table = record { day = a.day; customers = a.customers; classes = a.classes; left_out = table; starts = a.starts; meter = a.meter; numbers = a.numbers; settling = a.settling; purchases = a.purchases }
-
-abbrev pub with_starts : Asked → List ℕ → Asked
-with_starts a table = record { day = a.day; customers = a.customers; classes = a.classes; left_out = a.left_out; starts = table; meter = a.meter; numbers = a.numbers; settling = a.settling; purchases = a.purchases }
-
-abbrev pub with_numbers : Meter → List ℕ → Asked → ℕ → Asked
-with_numbers m values a place = record { day = a.day; customers = a.customers; classes = a.classes; left_out = a.left_out; starts = a.starts; meter = Some m; numbers = written place values a.numbers; settling = a.settling; purchases = a.purchases }
-
-abbrev pub with_settling : Asked → Settling → Asked
-with_settling a s = record { day = a.day; customers = a.customers; classes = a.classes; left_out = a.left_out; starts = a.starts; meter = a.meter; numbers = a.numbers; settling = Some s; purchases = a.purchases }
-
-abbrev pub with_purchases : Asked → Purchases → Asked
-with_purchases a p = record { day = a.day; customers = a.customers; classes = a.classes; left_out = a.left_out; starts = a.starts; meter = a.meter; numbers = a.numbers; settling = a.settling; purchases = Some p }
-
 -- what is said by what was read, or the fault
 abbrev pub said : {X : Type 0} → (X → Asked) → Result X Fault → Result Asked Fault
 said f (Ok x) = Ok (f x)
@@ -78,7 +53,8 @@ mixed (Some Readings) Loads = true
 mixed (Some Readings) Readings = false
 
 abbrev pub metered_by : Meter → List ℕ → Asked → Result Asked Fault
-metered_by m ns a = cond (mixed a.meter m) (Err LoadsAndReadings) (said (with_numbers m (drop 3 ns) a) (place_in m ns))
+metered_by m ns a =
+    cond (mixed a.meter m) (Err LoadsAndReadings) (said (λ place. record a { meter = Some m; numbers = written place (drop 3 ns) a.numbers }) (place_in m ns))
 
 -- what a line leaves: what was asked with what it says, or its fault and all as it was
 abbrev pub Leaves : {U : Type 0} → Result U Fault → Result Asked Fault → Asked → Asked → Type 0
@@ -87,16 +63,16 @@ Leaves (Err fault) whole entry exit = (whole ≡ Err fault) × (exit ≡ entry)
 
 -- what a word and its numbers do
 abbrev pub after_word : Word → List ℕ → Asked → Result Asked Fault
-after_word Day ns a = said (of_day a) (only_number ns 0 95)
-after_word Customers ns a = said (with_customers a) (only_number ns 1 16)
-after_word Workday ns a = said (with_classes a) (days_marked 0 ns a.classes)
-after_word Holiday ns a = said (with_classes a) (days_marked 1 ns a.classes)
-after_word LeftOut ns a = said (with_left_out a) (days_marked 1 ns a.left_out)
-after_word Start ns a = said (with_starts a) (start_marked ns a.starts)
+after_word Day ns a = said (λ d. record a { day = Some d }) (only_number ns 0 95)
+after_word Customers ns a = said (λ n. record a { customers = n }) (only_number ns 1 16)
+after_word Workday ns a = said (λ table. record a { classes = table }) (days_marked 0 ns a.classes)
+after_word Holiday ns a = said (λ table. record a { classes = table }) (days_marked 1 ns a.classes)
+after_word LeftOut ns a = said (λ table. record a { left_out = table }) (days_marked 1 ns a.left_out)
+after_word Start ns a = said (λ table. record a { starts = table }) (start_marked ns a.starts)
 after_word Load ns a = metered_by Loads ns a
 after_word Reading ns a = metered_by Readings ns a
-after_word Settle ns a = said (with_settling a) (settling_in ns)
-after_word Energy ns a = said (with_purchases a) (purchases_in ns)
+after_word Settle ns a = said (λ s. record a { settling = Some s }) (settling_in ns)
+after_word Energy ns a = said (λ p. record a { purchases = Some p }) (purchases_in ns)
 
 -- the numbers are read before the word is looked at
 abbrev pub after_fields : Result (List ℕ) Fault → Result Word Fault → Asked → Result Asked Fault

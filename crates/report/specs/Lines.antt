@@ -1,5 +1,5 @@
 -- What the numbers of a line must be, and what they say.
-use Rattle.std.specs.Prelude.{ℕ, suc, ◌+◌, ◌-◌, Bool, cond, ◌&&◌, ◌||◌, List, [], ◌∷◌, length, drop, replicate, Some, None, Ok, Err, fold, sum, Option, Result, ◌==◌, nat_le, nat_lt, slice_index, slice_set}
+use Rattle.std.specs.Prelude.{ℕ, suc, ◌-◌, Bool, cond, ◌&&◌, ◌||◌, List, [], ◌∷◌, length, drop, replicate, Some, None, Ok, Err, fold, sum, Option, Result, ◌==◌, nat_le, nat_lt, slice_index, slice_set}
 use Rattle.load.specs.Meaning.{is_customer, is_day, is_hour}
 use Rattle.load.specs.Records.{interval_place, register_place}
 use Rattle.settlement.specs.Kinds.{kind_numbered}
@@ -44,6 +44,10 @@ abbrev pub first_hour : Meter → ℕ
 first_hour Loads = 1
 first_hour Readings = 0
 
+-- a meter has a number of the hour
+abbrev pub has_hour : Meter → ℕ → ℕ → ℕ → Bool
+has_hour m c d h = is_customer c && (is_day d && (nat_le (first_hour m) h && nat_le h 24))
+
 -- where the record looks for the number of an hour
 abbrev pub hour_place : Meter → ℕ → ℕ → ℕ → ℕ
 hour_place Loads c d h = interval_place c d h
@@ -52,7 +56,7 @@ hour_place Readings c d h = register_place c d h
 -- the place of the first of some numbers of a customer's day, at most to hour 24
 abbrev pub place_for : Meter → ℕ → ℕ → ℕ → ℕ → Result ℕ Fault
 place_for m c d h many =
-    cond (is_customer c && (is_day d && (nat_le (first_hour m) h && nat_le h 24)))
+    cond (has_hour m c d h)
     (cond (nat_lt (25 - h) many) (Err TooManyNumbers) (Ok (hour_place m c d h)))
     (Err OutOfRange)
 
@@ -93,9 +97,9 @@ settling_in ns =
     (cond (nat_lt 25 (length ns)) (Err TooManyNumbers)
     (settling_from ns (kind_numbered (slice_index ns 1)) (mark_in (slice_index ns 5)) (mark_in (slice_index ns 6)) (marks_written 0 (drop 9 ns) (replicate 16 0))))
 
--- the retailer's purchase, then those of the others, 0 where there is no buyer
+-- the retailer's purchase, then those of the others
 abbrev pub purchased : ℕ → List ℕ → Purchases
-purchased rest others = record { bought = written 1 others (slice_set (replicate 8 0) 0 rest); buyers = length others + 1 }
+purchased rest others = record { bought = record { items = rest ∷ others } }
 
 -- a total, then what each of at most 7 buyers but the retailer purchased of it; the rest is the retailer's
 abbrev pub purchases_in : List ℕ → Result Purchases Fault

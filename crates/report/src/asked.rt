@@ -1,6 +1,6 @@
 // What a request holds, for those who report on it.
 ghost use Rattle.std.specs.Prelude.{◌≡◌, ◌≤◌};
-ghost use Rattle.std.specs.Option.{unwrap_or};
+ghost use Rattle.std.specs.Option.{option_map, unwrap_or};
 ghost use Rattle.report.specs.Asked.{asked};
 
 use crate::hour::{Purchases, Settling};
@@ -45,10 +45,10 @@ impl Request {
     }
 
     // What the buyers purchased in that hour, if the text says so.
-    pub fn purchases(&self) -> Option<Purchases>
-        ensures value { result ≡ (asked self.now).purchases }
+    pub fn purchases(&self) -> Option<&Purchases>
+        ensures value { option_map (λ x. x.now) result ≡ (asked self.now).purchases }
     {
-        self.purchases
+        self.purchases.as_ref()
     }
 
     // The numbers as hourly loads.

@@ -1,42 +1,28 @@
 // What is wrong with a line of the text.
-use std::fmt;
+use thiserror::Error;
 
-#[derive(Clone, Copy, PartialEq, Eq, Debug)]
+#[derive(Clone, Copy, PartialEq, Eq, Debug, Error)]
 pub enum Fault {
+    #[error("unknown word")]
     UnknownWord,
+    #[error("too few numbers")]
     TooFewNumbers,
+    #[error("too many numbers")]
     TooManyNumbers,
+    #[error("not a number")]
     NotANumber,
+    #[error("out of range")]
     OutOfRange,
+    #[error("loads and readings in one text")]
     LoadsAndReadings,
+    #[error("no day named")]
     NoDay,
 }
 
 // The first bad line, counted from 1, and what is wrong with it.
-#[derive(Clone, Copy, PartialEq, Eq, Debug)]
+#[derive(Clone, Copy, PartialEq, Eq, Debug, Error)]
+#[error("line {line}: {fault}")]
 pub struct BadLine {
     pub line: usize,
     pub fault: Fault,
-}
-
-impl fmt::Display for Fault {
-    fn fmt<W: fmt::Write>(&self, f: &mut fmt::Formatter<W>) -> fmt::Result {
-        match *self {
-            Fault::UnknownWord => f.write_str("unknown word"),
-            Fault::TooFewNumbers => f.write_str("too few numbers"),
-            Fault::TooManyNumbers => f.write_str("too many numbers"),
-            Fault::NotANumber => f.write_str("not a number"),
-            Fault::OutOfRange => f.write_str("out of range"),
-            Fault::LoadsAndReadings => f.write_str("loads and readings in one text"),
-            Fault::NoDay => f.write_str("no day named"),
-        }
-    }
-}
-
-impl fmt::Display for BadLine {
-    fn fmt<W: fmt::Write>(&self, f: &mut fmt::Formatter<W>) -> fmt::Result {
-        let line = self.line;
-        let fault = self.fault;
-        write!(f, "line {line}: {fault}")
-    }
 }

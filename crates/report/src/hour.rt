@@ -3,11 +3,11 @@ ghost use Rattle.std.specs.Prelude.{◌≡◌};
 ghost use Rattle.settlement.specs.Settle.{settled};
 ghost use Rattle.share.specs.Shares.{shared};
 
+use arrayvec::ArrayVec;
 use baseline::source::BaselineSource;
 use load::loads::DayClass;
 use refusal::Refusal;
-use settlement::settle::settle_line;
-use settlement::terms::{Kind, Line, Portfolio, Slot, Terms};
+use settlement::terms::{Kind, Line, Portfolio, ResourceHour, Slot, Terms};
 use share::share_out;
 
 // What a text asks to be settled: an hour, and who takes part in its plan.
@@ -21,10 +21,9 @@ pub struct Settling {
 }
 
 // What each buyer purchased in the hour, in kWh, the retailer first.
-#[derive(Clone, Copy)]
+#[derive(Drop)]
 pub struct Purchases {
-    pub bought: [u32; 8],
-    pub buyers: usize,
+    pub bought: ArrayVec<u32, 8>,
 }
 
 impl Settling {
@@ -38,25 +37,28 @@ impl Settling {
     ) -> Result<Line, Refusal>
         ensures value { result ≡ settled (S.meaning source.now) (S.meaning source.now) self.now.marks (record { kind = self.now.kind; customers = customers }) (record { month = self.now.month; class = class; day = day; hour = self.now.hour }) self.now.terms }
     {
-        let portfolio = Portfolio {
-            kind: self.kind,
-            customers,
+        let asked = ResourceHour {
+            portfolio: Portfolio {
+                kind: self.kind,
+                customers,
+            },
+            slot: Slot {
+                month: self.month,
+                class,
+                day,
+                hour: self.hour,
+            },
+            terms: self.terms,
         };
-        let slot = Slot {
-            month: self.month,
-            class,
-            day,
-            hour: self.hour,
-        };
-        settle_line(source, source, &self.marks, portfolio, slot, self.terms)
+        asked.settle(source, source, &self.marks)
     }
 }
 
 impl Purchases {
     // Each buyer's share of an amount of won, by the purchases.
     pub fn shares_of(&self, amount: i64) -> Option<[i64; 16]>
-        ensures value { result ≡ shared amount self.now.bought }
+        ensures value { result ≡ shared amount self.now.bought.items }
     {
-        share_out(amount, &self.bought)
+        share_out(amount, self.bought.as_slice())
     }
 }

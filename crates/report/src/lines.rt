@@ -1,10 +1,12 @@
 // What the numbers of a line say, or what is wrong with them.
-ghost use Rattle.std.specs.Prelude.{◌≡◌, ◌+◌, ◌-◌, ◌<◌, ◌≤◌, length, replicate, IfOk, if◌then◌else◌, Some, None, sum, OnOk, nat_le};
-ghost use Rattle.report.specs.Lines.{only_number, days_marked, start_marked, written, first_hour, hour_place, place_for, place_in, mark_in, marks_written, settling_in, purchased, purchases_in};
+ghost use Rattle.std.specs.Prelude.{◌≡◌, ◌+◌, ◌-◌, ◌<◌, ◌≤◌, length, replicate, IfOk, if◌then◌else◌, Some, None, Ok, Err, sum, OnOk, nat_le};
+ghost use Rattle.report.specs.Lines.{only_number, days_marked, start_marked, written, has_hour, hour_place, place_for, place_in, mark_in, marks_written, settling_in, purchased, purchases_in};
 
 use crate::fault::Fault;
 use crate::hour::{Purchases, Settling};
 use crate::meter::Meter;
+use arrayvec::ArrayVec;
+use load::places::{CustomerHour, is_customer_day, is_hour};
 use settlement::terms::{Kind, Terms};
 
 // Customers are 0 to 15.
@@ -19,9 +21,6 @@ const HOURS: u32 = 24;
 // Readings of one customer: one before the first hour, and one at the end of each.
 const READINGS: u32 = 2305;
 
-// A settle line has this many numbers before its marks.
-const TERMS: usize = 9;
-
 // The greatest total of an hour's energies, in kWh.
 const MOST_ENERGY: u32 = 150_000_000;
 
@@ -32,12 +31,8 @@ pub(crate) fn only_number(numbers: &[u32], low: u32, high: u32) -> Result<u32, F
 {
     match numbers {
         [] => Err(Fault::TooFewNumbers),
-        [number] => {
-            if *number < low || *number > high {
-                return Err(Fault::OutOfRange);
-            }
-            Ok(*number)
-        }
+        [number] if !(low..=high).contains(number) => Err(Fault::OutOfRange),
+        [number] => Ok(*number),
         _ => Err(Fault::TooManyNumbers),
     }
 }
@@ -65,7 +60,7 @@ pub(crate) fn start_marked(mut table: [u8; 96], numbers: &[u32]) -> Result<[u8; 
     match numbers {
         [] | [_] => Err(Fault::TooFewNumbers),
         [day, hour] => {
-            if *day >= DAYS || *hour < 1 || *hour > HOURS {
+            if *day >= DAYS || !is_hour(*hour) {
                 return Err(Fault::OutOfRange);
             }
             table[*day as usize] = *hour as u8;
@@ -75,43 +70,29 @@ pub(crate) fn start_marked(mut table: [u8; 96], numbers: &[u32]) -> Result<[u8; 
     }
 }
 
-// The first hour that a meter's numbers are of; a reading of hour 0 stands at the day's begin.
-fn first_hour(meter: Meter) -> u32
-    ensures value { result ≡ first_hour meter }
+// Where the number of a customer's hour lies; a reading of hour 0 stands at the day's begin.
+fn hour_place(meter: Meter, at: CustomerHour) -> Option<usize>
+    ensures value { result ≡ (if has_hour meter at.customer at.day at.hour then Some (hour_place meter at.customer at.day at.hour) else None) }
 {
     match meter {
-        Meter::Loads => 1,
-        Meter::Readings => 0,
+        Meter::Loads => at.place(),
+        Meter::Readings if is_customer_day(at.customer, at.day) && at.hour <= HOURS => {
+            Some((at.customer * READINGS + at.day * HOURS + at.hour) as usize)
+        }
+        Meter::Readings => None,
     }
-}
-
-// Where the number of a customer's hour lies.
-fn hour_place(meter: Meter, customer: u32, day: u32, hour: u32) -> usize
-    requires customer { customer < 16 }
-    requires day { day < 96 }
-    requires first { first_hour meter ≤ hour }
-    requires last { hour ≤ 24 }
-    ensures value { result ≡ hour_place meter customer day hour }
-{
-    let place = match meter {
-        Meter::Loads => (customer * DAYS + day) * HOURS + hour - 1,
-        Meter::Readings => customer * READINGS + day * HOURS + hour,
-    };
-    place as usize
 }
 
 // The place of the first of some numbers of a customer's day, at most to hour 24.
-fn place_for(meter: Meter, customer: u32, day: u32, hour: u32, count: usize) -> Result<usize, Fault>
-    ensures value { result ≡ place_for meter customer day hour count }
+fn place_for(meter: Meter, first: CustomerHour, count: usize) -> Result<usize, Fault>
+    ensures value { result ≡ place_for meter first.customer first.day first.hour count }
     ensures bounded { IfOk result (λ p. p + count ≤ 36880) }
 {
-    if customer >= CUSTOMERS || day >= DAYS || hour < first_hour(meter) || hour > HOURS {
-        return Err(Fault::OutOfRange);
-    }
-    if count > (HOURS + 1 - hour) as usize {
+    let place = hour_place(meter, first).ok_or(Fault::OutOfRange)?;
+    if count > (HOURS + 1 - first.hour) as usize {
         return Err(Fault::TooManyNumbers);
     }
-    Ok(hour_place(meter, customer, day, hour))
+    Ok(place)
 }
 
 // The place for a line of customer, day, hour, and numbers from that hour on.
@@ -120,13 +101,19 @@ pub(crate) fn place_of(meter: Meter, numbers: &[u32]) -> Result<usize, Fault>
     ensures bounded { IfOk result (λ p. p + (length numbers.now - 3) ≤ 36880) }
     ensures some { OnOk result (3 ≤ length numbers.now) }
 {
-    if numbers.len() < 4 {
+    let [customer, day, hour, _, ..] = numbers else {
         return Err(Fault::TooFewNumbers);
-    }
-    place_for(meter, numbers[0], numbers[1], numbers[2], numbers.len() - 3)
+    };
+    let first = CustomerHour {
+        customer: *customer,
+        day: *day,
+        hour: *hour,
+    };
+    place_for(meter, first, numbers.len() - 3)
 }
 
 // A mark: 0 or 1.
+// Stays: (d) the library has no conversion of a number to a `bool`.
 fn mark_of(number: u32) -> Result<bool, Fault>
     ensures value { result ≡ mark_in number }
 {
@@ -138,16 +125,14 @@ fn mark_of(number: u32) -> Result<bool, Fault>
 }
 
 // At most 16 marks, 0 where there is none.
+// Stays: (c) over `marks.iter_mut().zip(numbers)` nothing is known of the marks after the loop.
 fn marks_of(numbers: &[u32]) -> Result<[u8; 16], Fault>
     requires few { length numbers.now ≤ 16 }
     ensures value { result ≡ marks_written 0 numbers.now (replicate 16 0) }
 {
     let mut marks = [0; 16];
     for (k, number) in numbers.iter().enumerate() {
-        if *number > 1 {
-            return Err(Fault::OutOfRange);
-        }
-        marks[k] = *number as u8;
+        marks[k] = u8::from(mark_of(*number)?);
     }
     Ok(marks)
 }
@@ -156,56 +141,48 @@ fn marks_of(numbers: &[u32]) -> Result<[u8; 16], Fault>
 pub(crate) fn settling_of(numbers: &[u32]) -> Result<Settling, Fault>
     ensures value { result ≡ settling_in numbers.now }
 {
-    if numbers.len() < TERMS {
+    let [
+        hour,
+        kind,
+        month,
+        plan,
+        order,
+        emergency,
+        test,
+        smp,
+        mgp,
+        marks @ ..,
+    ] = numbers
+    else {
         return Err(Fault::TooFewNumbers);
-    }
-    if numbers.len() > TERMS + 16 {
+    };
+    if marks.len() > 16 {
         return Err(Fault::TooManyNumbers);
     }
-    let Some(kind) = Kind::numbered(numbers[1]) else {
-        return Err(Fault::OutOfRange);
-    };
-    let emergency = mark_of(numbers[5])?;
-    let test = mark_of(numbers[6])?;
-    let marks = marks_of(&numbers[9..])?;
+    let kind = Kind::try_from(*kind).map_err(|_| Fault::OutOfRange)?;
     Ok(Settling {
-        hour: numbers[0],
+        hour: *hour,
         kind,
-        month: numbers[2],
+        month: *month,
         terms: Terms {
-            plan: numbers[3],
-            order: numbers[4],
-            emergency,
-            test,
-            smp: numbers[7],
-            mgp: numbers[8],
+            plan: *plan,
+            order: *order,
+            emergency: mark_of(*emergency)?,
+            test: mark_of(*test)?,
+            smp: *smp,
+            mgp: *mgp,
         },
-        marks,
+        marks: marks_of(marks)?,
     })
 }
 
-// What is left of a total, or none if more was taken than there is.
-fn rest_of(total: u32, taken: &[u32]) -> Option<u32>
-    ensures value { result ≡ (if nat_le (sum taken.now) total then Some (total - sum taken.now) else None) }
+// What is left of a total when numbers are taken from it, of which it must have enough.
+fn rest_of(total: u32, taken: &[u32]) -> Result<u32, Fault>
+    ensures value { result ≡ (if nat_le (sum taken.now) total then Ok (total - sum taken.now) else Err Fault.OutOfRange) }
 {
-    let mut rest = total;
-    for number in taken {
-        if *number > rest {
-            return None;
-        }
-        rest -= *number;
-    }
-    Some(rest)
-}
-
-// Writes numbers one behind another from a place on.
-pub(crate) fn write_from(table: &mut [u32], place: usize, values: &[u32])
-    requires room { place + length values.now ≤ length table.old }
-    ensures value { table.new ≡ written place values.now table.old }
-{
-    for (k, value) in values.iter().enumerate() {
-        table[place + k] = *value;
-    }
+    taken.iter().try_fold(total, |rest, number| {
+        rest.checked_sub(*number).ok_or(Fault::OutOfRange)
+    })
 }
 
 // The retailer's purchase, then those of at most 7 others.
@@ -213,13 +190,10 @@ fn purchased(rest: u32, others: &[u32]) -> Purchases
     requires few { length others.now ≤ 7 }
     ensures value { result ≡ purchased rest others.now }
 {
-    let mut bought = [0; 8];
-    bought[0] = rest;
-    write_from(&mut bought, 1, others);
-    Purchases {
-        bought,
-        buyers: others.len() + 1,
-    }
+    let mut bought = ArrayVec::new();
+    bought.push(rest);
+    bought.try_extend_from_slice(others).unwrap();
+    Purchases { bought }
 }
 
 // A total, then what each buyer but the retailer purchased of it; the rest is the retailer's.
@@ -232,11 +206,9 @@ pub(crate) fn purchases_of(numbers: &[u32]) -> Result<Purchases, Fault>
     if others.len() > 7 {
         return Err(Fault::TooManyNumbers);
     }
-    if *total < 1 || *total > MOST_ENERGY {
+    if !(1..=MOST_ENERGY).contains(total) {
         return Err(Fault::OutOfRange);
     }
-    let Some(rest) = rest_of(*total, others) else {
-        return Err(Fault::OutOfRange);
-    };
+    let rest = rest_of(*total, others)?;
     Ok(purchased(rest, others))
 }

@@ -1,14 +1,11 @@
 // The text of a report, read line by line.
-ghost use Rattle.std.specs.Prelude.{◌≡◌, [], IfOk};
-ghost use Rattle.std.specs.Option.{unwrap_or};
-ghost use Rattle.report.specs.Asked.{asked, nothing_asked, mixed, metered_by, Leaves, after_word, after_line, passed_over, Reads, answered, read_from};
-ghost use Rattle.report.specs.Pieces.{before, behind};
+ghost use Rattle.std.specs.Prelude.{◌≡◌, IfOk};
+ghost use Rattle.report.specs.Asked.{asked, nothing_asked, metered_by, Leaves, after_word, after_line, Reads, answered, read_from};
 
 use crate::fault::{BadLine, Fault};
-use crate::fields::{Fields, cut};
+use crate::fields::{numbers_of, word_of};
 use crate::lines::{
     CUSTOMERS, DAYS, days_marked, only_number, place_of, purchases_of, settling_of, start_marked,
-    write_from,
 };
 use crate::meter::Meter;
 use crate::request::Request;
@@ -21,6 +18,7 @@ const PLACES: usize = 36880;
 // Where nothing was read; as a load and as a reading it counts as missing.
 const NOTHING: u32 = 4_294_967_295;
 
+// Stays: (a) the records read the class of a day from a byte, and the left-out layer its marks.
 // The byte of a day that is neither workday nor holiday.
 const NEITHER: u8 = 2;
 
@@ -32,37 +30,6 @@ const HOLIDAY: u8 = 1;
 
 // The byte of a day that is left out.
 const LEFT_OUT: u8 = 1;
-
-// Whether a line of one meter may not stand in a text of another.
-fn is_mixed(before: Option<Meter>, meter: Meter) -> bool
-    ensures value { result ≡ mixed before meter }
-{
-    match (before, meter) {
-        (Some(Meter::Loads), Meter::Readings) | (Some(Meter::Readings), Meter::Loads) => true,
-        _ => false,
-    }
-}
-
-// Whether a line is empty or begins with #.
-fn is_passed_over(line: &str) -> bool
-    ensures value { result ≡ passed_over line.now }
-{
-    match line.as_bytes() {
-        [] => true,
-        [first, ..] => *first == b'#',
-    }
-}
-
-// The first line of a text, and what follows it.
-fn first_line(text: &str) -> (&str, &str)
-    ensures front { result.0.now ≡ before 10 text.now }
-    ensures back { result.1.now ≡ unwrap_or (behind 10 text.now) [] }
-{
-    match cut(text, '\n') {
-        (line, Some(more)) => (line, more),
-        (line, None) => (line, ""),
-    }
-}
 
 impl Request {
     // A request with nothing in it yet: one customer, no day of a class, no load.
@@ -86,11 +53,12 @@ impl Request {
     fn read_meter(&mut self, meter: Meter, numbers: &[u32]) -> Result<(), Fault>
         ensures value { Leaves result (metered_by meter numbers.now (asked self.old)) (asked self.old) (asked self.new) }
     {
-        if is_mixed(self.meter, meter) {
+        if self.meter.unwrap_or(meter) != meter {
             return Err(Fault::LoadsAndReadings);
         }
         let place = place_of(meter, numbers)?;
-        write_from(&mut self.numbers, place, &numbers[3..]);
+        let values = &numbers[3..];
+        self.numbers[place..place + values.len()].copy_from_slice(values);
         self.meter = Some(meter);
         Ok(())
     }
@@ -118,33 +86,26 @@ impl Request {
     fn take_line(&mut self, line: &str) -> Result<(), Fault>
         ensures value { Leaves result (after_line line.now (asked self.old)) (asked self.old) (asked self.new) }
     {
-        if is_passed_over(line) {
+        if line.is_empty() || line.starts_with('#') {
             return Ok(());
         }
-        let (word, behind_word) = cut(line, ' ');
-        let fields = Fields::of(behind_word)?;
-        let word = Word::named(word)?;
-        self.take(word, fields.numbers())
+        let numbers = numbers_of(line)?;
+        let word = word_of(line).parse::<Word>()?;
+        self.take(word, numbers.as_slice())
     }
 
     // Takes the lines of a text; the first bad one ends it.
     fn read_lines(&mut self, text: &str) -> Result<(), BadLine>
         ensures value { Reads result (read_from (asked self.old) text.now) (asked self.new) }
     {
-        let mut rest = text;
-        let mut lines = 0;
-        while !rest.is_empty() {
-            let (line, more) = first_line(rest);
-            lines += 1;
-            if let Err(fault) = self.take_line(line) {
-                return Err(BadLine { line: lines, fault });
-            }
-            rest = more;
+        for (k, line) in text.split_terminator('\n').enumerate() {
+            self.take_line(line)
+                .map_err(|fault| BadLine { line: k + 1, fault })?;
         }
         match self.day {
             Some(_) => Ok(()),
             None => Err(BadLine {
-                line: lines,
+                line: text.split_terminator('\n').count(),
                 fault: Fault::NoDay,
             }),
         }
@@ -154,9 +115,7 @@ impl Request {
     pub fn read(mut self, text: &str) -> Result<Request, BadLine>
         ensures value { answered result ≡ read_from (asked self) text.now }
     {
-        match self.read_lines(text) {
-            Ok(()) => Ok(self),
-            Err(bad) => Err(bad),
-        }
+        self.read_lines(text)?;
+        Ok(self)
     }
 }

@@ -3,6 +3,7 @@ ghost use Rattle.std.specs.Prelude.{◌≡◌};
 ghost use Rattle.report.specs.Usual.{usual_of};
 
 use baseline::source::BaselineSource;
+use load::places::CustomerHour;
 use refusal::Cause;
 use std::fmt;
 
@@ -14,19 +15,12 @@ pub struct Usual {
     pub cut: i64,
 }
 
-// A customer's usual load on a day in an hour, or why there is none.
-pub fn usual_load<S: BaselineSource>(
-    source: &S,
-    customer: u32,
-    day: u32,
-    hour: u32,
-) -> Result<Usual, Cause>
-    ensures value { result ≡ usual_of (S.meaning source.now) customer day hour }
+// The usual load of a customer's hour, or why there is none.
+pub fn usual_load<S: BaselineSource>(source: &S, asked: CustomerHour) -> Result<Usual, Cause>
+    ensures value { result ≡ usual_of (S.meaning source.now) asked.customer asked.day asked.hour }
 {
-    let baseline = source.baseline(customer, day, hour)?;
-    let Some(metered) = source.metered(customer, day, hour) else {
-        return Err(Cause::MissingLoad);
-    };
+    let baseline = source.baseline(asked)?;
+    let metered = source.metered(asked).ok_or(Cause::MissingLoad)?;
     Ok(Usual {
         baseline,
         metered,

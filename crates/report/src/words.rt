@@ -4,12 +4,14 @@ ghost use Rattle.report.specs.Words.{word_named};
 
 use crate::fault::Fault;
 use crate::word::Word;
+use std::str::FromStr;
 
-impl Word {
-    // The word of a text.
-    pub(crate) fn named(text: &str) -> Result<Word, Fault>
-        ensures value { result ≡ word_named text.now }
-    {
+impl FromStr for Word {
+    type Err = Fault;
+
+    ghost from_str_gives = { λ text r. r ≡ word_named text };
+
+    fn from_str(text: &str) -> Result<Word, Fault> {
         let word = match text {
             "day" => Word::Day,
             "customers" => Word::Customers,

@@ -18,7 +18,7 @@ fn check_told(rt: &impl Abort, alloc: Global, text: &str, told: &str) -> Result<
 // Checks that each text is refused for one reason.
 fn check_all(rt: &impl Abort, alloc: Global, texts: &[&str], told: &str) -> Result<(), Fail> {
     for text in texts {
-        check_told(rt, alloc, *text, told)?;
+        check_told(rt, alloc, text, told)?;
     }
     Ok(())
 }

@@ -1,10 +1,11 @@
 // Prints the usual load of each customer in each hour of a day, and the money of an hour: the text on standard input, the method as the argument.
 #![tactic(auto)]
 
-use anyhow::anyhow;
+use anyhow::{Context, Result};
 use baseline::method::Method;
 use baseline::source::BaselineSource;
-use load::loads::{DayClass, LoadRecord};
+use load::loads::LoadRecord;
+use load::places::CustomerHour;
 use refusal::Refusal;
 use report::hour::Purchases;
 use report::meter::Meter;
@@ -20,10 +21,15 @@ fn print_rows<S: BaselineSource>(
     source: &S,
     customers: u32,
     day: u32,
-) -> anyhow::Result<()> {
+) -> Result<()> {
     for customer in 0..customers {
-        for hour in 1..25 {
-            match usual_load(source, customer, day, hour) {
+        for hour in 1..=24 {
+            let asked = CustomerHour {
+                customer,
+                day,
+                hour,
+            };
+            match usual_load(source, asked) {
                 Ok(usual) => println!(rt; "customer={customer} hour={hour} {usual}")?,
                 Err(cause) => {
                     let number = cause.number();
@@ -35,103 +41,90 @@ fn print_rows<S: BaselineSource>(
     Ok(())
 }
 
-// Prints the line of the hour that the text settles, or why it is refused, and answers it.
-fn print_line(rt: &HostRuntime, answer: Result<Line, Refusal>) -> anyhow::Result<Option<Line>> {
-    match answer {
-        Ok(line) => {
-            let paid = i64::from(line.plan_pay) + i64::from(line.order_pay);
-            println!(rt;
-                "plan={} order={} sr={} dr={} dlr={} slr={} paid={} fined={}",
-                line.plan, line.order, line.sr, line.dr, line.dlr, line.slr, paid, line.fined
-            )?;
-            Ok(Some(line))
-        }
-        Err(refusal) => {
-            let number = refusal.number();
-            match refusal {
-                Refusal::Scheduled(lacking) | Refusal::Mandatory(lacking) => println!(rt;
-                    "refused={} customer={} cause={}",
-                    number,
-                    lacking.customer,
-                    lacking.cause.number()
-                )?,
-                _ => println!(rt; "refused={number}")?,
-            }
-            Ok(None)
-        }
+// What is paid for a line's plan and order.
+fn paid_for(line: &Line) -> i64 {
+    i64::from(line.plan_pay) + i64::from(line.order_pay)
+}
+
+// Prints the line of an hour.
+fn print_line(rt: &HostRuntime, line: &Line) -> Result<()> {
+    let paid = paid_for(line);
+    println!(rt;
+        "plan={} order={} sr={} dr={} dlr={} slr={} paid={} fined={}",
+        line.plan, line.order, line.sr, line.dr, line.dlr, line.slr, paid, line.fined
+    )?;
+    Ok(())
+}
+
+// Prints why an hour's line is refused.
+fn print_refusal(rt: &HostRuntime, refusal: Refusal) -> Result<()> {
+    let number = refusal.number();
+    match refusal {
+        Refusal::Scheduled(lacking) | Refusal::Mandatory(lacking) => println!(rt;
+            "refused={} customer={} cause={}",
+            number,
+            lacking.customer,
+            lacking.cause.number()
+        )?,
+        _ => println!(rt; "refused={number}")?,
     }
+    Ok(())
 }
 
 // Prints what each buyer is charged and refunded for a line.
-fn print_shares(rt: &HostRuntime, line: Line, purchases: Purchases) -> anyhow::Result<()> {
-    let paid = i64::from(line.plan_pay) + i64::from(line.order_pay);
-    let charges = purchases.shares_of(paid);
+fn print_shares(rt: &HostRuntime, line: &Line, purchases: &Purchases) -> Result<()> {
+    let charges = purchases.shares_of(paid_for(line));
     let refunds = purchases.shares_of(i64::from(line.fined));
     if let (Some(charges), Some(refunds)) = (charges, refunds) {
-        for k in 0..16 {
-            if k < purchases.buyers {
-                println!(rt; "buyer={} charge={} refund={}", k, charges[k], refunds[k])?;
-            }
+        let shares = charges.iter().zip(&refunds);
+        for (buyer, (charge, refund)) in shares.take(purchases.bought.len()).enumerate() {
+            println!(rt; "buyer={buyer} charge={charge} refund={refund}")?;
         }
     }
     Ok(())
 }
 
-// Prints the rows of the day, and the line and shares of the hour that the text settles.
-fn print_report<S: BaselineSource>(
+// Prints the rows of the day by a method over a record, and the line and shares of the hour that the text settles.
+fn print_report<R: LoadRecord + Drop>(
     rt: &HostRuntime,
     request: &Request,
-    source: &S,
-    class: DayClass,
-) -> anyhow::Result<()> {
+    record: R,
+    method: Method,
+) -> Result<()> {
     let day = request.day();
+    let class = record.class(day);
+    let source = request.source(record, method);
     println!(rt; "day={day}")?;
-    print_rows(rt, source, request.customers(), day)?;
+    print_rows(rt, &source, request.customers(), day)?;
     let Some(settling) = request.settling() else {
         return Ok(());
     };
     let hour = settling.hour;
     println!(rt; "hour={hour}")?;
-    let line = print_line(rt, settling.line(source, request.customers(), day, class))?;
-    if let (Some(line), Some(purchases)) = (line, request.purchases()) {
-        print_shares(rt, line, purchases)?;
-    }
-    Ok(())
-}
-
-// The method that the first argument names.
-fn method_of(rt: &HostRuntime) -> anyhow::Result<Method> {
-    let Some(text) = env::args(rt)?.nth(1) else {
-        return Err(anyhow!("name a method"));
-    };
-    match Method::named(text.as_str()) {
-        Ok(method) => Ok(method),
-        Err(_) => Err(anyhow!("refusal 8: unknown method")),
+    match settling.line(&source, request.customers(), day, class) {
+        Ok(line) => {
+            print_line(rt, &line)?;
+            if let Some(purchases) = request.purchases() {
+                print_shares(rt, &line, purchases)?;
+            }
+            Ok(())
+        }
+        Err(refusal) => print_refusal(rt, refusal),
     }
 }
 
-fn run(rt: &HostRuntime) -> anyhow::Result<()> {
-    let method = method_of(rt)?;
+fn run(rt: &HostRuntime) -> Result<()> {
+    let method = env::args(rt)?.nth(1).context("name a method")?;
+    let method: Method = method.as_str().parse()?;
     let mut text = String::new(rt.alloc());
     rt.stdin().read_to_string(&mut text)?;
-    let request = match Request::new(rt.alloc())?.read(text.as_str()) {
-        Ok(request) => request,
-        Err(bad) => return Err(anyhow!(bad.to_string(rt.alloc())?)),
-    };
+    let request = Request::new(rt.alloc())?.read(text.as_str())?;
     match request.meter() {
-        Some(Meter::Readings) => {
-            let record = request.registers();
-            let class = record.class(request.day());
-            print_report(rt, &request, &request.source(record, method), class)
-        }
-        _ => {
-            let record = request.intervals();
-            let class = record.class(request.day());
-            print_report(rt, &request, &request.source(record, method), class)
-        }
+        Some(Meter::Readings) => print_report(rt, &request, request.registers(), method),
+        Some(Meter::Loads) | None => print_report(rt, &request, request.intervals(), method),
     }
 }
 
-fn main(rt: HostRuntime) -> anyhow::Result<()> {
+fn main(rt: HostRuntime) -> Result<()> {
     run(&rt)
 }

@@ -1,47 +1,59 @@
-use Rattle.std.proofs.Common.{◌≡◌, ℕ, ◌<◌, List, [], length, Ok, Option, Result, unwrap_or, ap, ◌∙◌, arith, rules}
+use Rattle.std.proofs.Common.{◌≡◌, ℕ, ◌+◌, ◌<◌, List, length, get_or, Err, Option, sym, ap, ◌∙◌, arith, rules}
+use Rattle.std.specs.List.{enumerate_from}
+use Rattle.std.proofs.lemmas.Iterator.Consumers.{YieldsList-turn, YieldsList-end, count_from_yields_List}
+use Rattle.std.proofs.lemmas.List.{length_push}
+use Rattle.std.proofs.lemmas.List.FromFn.{length-enumerate_from, get_or-enumerate_from}
+use Rattle.std.proofs.lemmas.Result.{MatchResult-at_ok, MatchResult-at_err, err_from_is_err_and}
 use Rattle.report.specs.declared.fault.BadLine.{BadLine}
-use Rattle.report.specs.Asked.{Asked, asked, lines_read, day_named}
-use Rattle.report.specs.Pieces.{behind, lines_of}
-use Rattle.report.proofs.Turns.{past_less, line_goes, line_stops, text_ends, some_from, none_from}
+use Rattle.report.specs.declared.fault.Fault.TheVariants.{NoDay}
+use Rattle.report.specs.Asked.{asked, after_line, day_named}
+use Rattle.report.specs.Pieces.{lines_of}
+use Rattle.report.proofs.Parts.{lines_yielded, numbered_lines}
+use Rattle.report.proofs.Turns.{line_goes, line_stops, text_ends, numbered}
 use Rattle.report.proofs.request.Request.read_lines.Goals as goal
 
-pub returns-in-Err : goal.returns-in-Err
-returns-in-Err c =
-    let l = c.loop-rest in
-    let rest : List ℕ = l.rest.now in
-    let whole : Result Asked BadLine = lines_read 0 (Ok (asked c.args.self.now)) (lines_of c.args.text.now) in
-    record { value = line_stops l.lines (asked l.self) rest c.first_line.result.0.now c.in-Err.fault whole (some_from _ rest c.is_empty.ensures c.loop-rest-test.true) c.first_line.ensures.front c.in-Err.ensures.value.0 l.invariant.2 }
+-- the line that the loop has come to, and its number
+line_at : (lines : List (List ℕ)) (n : ℕ) (p : ℕ × List ℕ) → (n < length (enumerate_from 0 lines)) × (p ≡ get_or (enumerate_from 0 lines) n p) → (n < length lines) × (p.0 ≡ n) × (p.1 ≡ get_or lines n p.1)
+line_at lines n p h =
+    let inside : n < length lines = omega (arith, length-enumerate_from 0 lines) in
+    let is = h.1 ∙ get_or-enumerate_from 0 lines n p inside in
+    let number = ap (λ (x : ℕ × List ℕ). x.0) is in
+    (inside, omega arith, ap (λ (x : ℕ × List ℕ). x.1) is)
 
-pub loop-rest-smaller : goal.loop-rest-smaller
-loop-rest-smaller c =
-    let rest : List ℕ = c.loop-rest.rest.now in
-    let more : List ℕ = c.first_line.result.1.now in
-    let less : length (unwrap_or (behind 10 rest) []) < length rest = past_less rest (some_from _ rest c.is_empty.ensures c.loop-rest-test.true) in
-    let same : length more ≡ length (unwrap_or (behind 10 rest) []) = ap length c.first_line.ensures.back in
-    let goal : length more < length rest = omega arith in
-    goal
+pub loop-k-preserved : goal.loop-k-preserved
+loop-k-preserved c =
+    let l = c.loop-k in
+    let lines : List (List ℕ) = lines_of c.args.text.now in
+    let turn = line_at lines (length l.yielded) (c.in-Some.k, c.in-Some.line.now) (YieldsList-turn (numbered_lines c.args.text.now c.split_terminator.ensures.text c.split_terminator.ensures.has_more c.split_terminator.ensures.pattern c.enumerate-k-items.ensures.source c.enumerate-k-items.ensures.count c.into_iter-k-iterator.ensures.into_iter_gives) l.yielded _ l.yielded_by _ c.next.new.self (c.in-Some.k, c.in-Some.line) c.in-Some.is c.next.ensures.steps) in
+    let left = numbered c.take_line.result c.map_err.result (c.in-Some.k + 1) (after_line c.in-Some.line.now (asked l.self)) (asked l.self) (asked c.take_line.new.self) c.map_err.ensures.cases (λ fault bad h. search rules) c.take_line.ensures.value in
+    let goes = MatchResult-at_ok _ _ c.in_ok-map_err.field-0 c.in_ok-map_err.was left in
+    rw (length_push l.yielded (c.in-Some.k, c.in-Some.line)) (line_goes (length l.yielded) (asked l.self) (asked c.take_line.new.self) lines c.in-Some.line.now c.in-Some.line.now _ turn.0 turn.2 goes l.invariant)
 
-pub loop-rest-preserved : goal.loop-rest-preserved
-loop-rest-preserved c =
-    let l = c.loop-rest in
-    let rest : List ℕ = l.rest.now in
-    let more : List ℕ = c.first_line.result.1.now in
-    let some : 0 < length rest = some_from _ rest c.is_empty.ensures c.loop-rest-test.true in
-    let less : length (unwrap_or (behind 10 rest) []) < length rest = past_less rest some in
-    let same : length more ≡ length (unwrap_or (behind 10 rest) []) = ap length c.first_line.ensures.back in
-    let whole : Result Asked BadLine = lines_read 0 (Ok (asked c.args.self.now)) (lines_of c.args.text.now) in
-    (search rules, omega arith, line_goes l.lines (asked l.self) (asked c.take_line.new.self) rest c.first_line.result.0.now more whole some c.first_line.ensures.front c.first_line.ensures.back c.in_default.ensures.value l.invariant.2)
+pub returns-in_err-map_err : goal.returns-in_err-map_err
+returns-in_err-map_err c =
+    let l = c.loop-k in
+    let lines : List (List ℕ) = lines_of c.args.text.now in
+    let turn = line_at lines (length l.yielded) (c.in-Some.k, c.in-Some.line.now) (YieldsList-turn (numbered_lines c.args.text.now c.split_terminator.ensures.text c.split_terminator.ensures.has_more c.split_terminator.ensures.pattern c.enumerate-k-items.ensures.source c.enumerate-k-items.ensures.count c.into_iter-k-iterator.ensures.into_iter_gives) l.yielded _ l.yielded_by _ c.next.new.self (c.in-Some.k, c.in-Some.line) c.in-Some.is c.next.ensures.steps) in
+    let left = numbered c.take_line.result c.map_err.result (c.in-Some.k + 1) (after_line c.in-Some.line.now (asked l.self)) (asked l.self) (asked c.take_line.new.self) c.map_err.ensures.cases (λ fault bad h. search rules) c.take_line.ensures.value in
+    let bad : BadLine = c.in_err-map_err.field-0.0 in
+    let stops = MatchResult-at_err _ _ bad c.in_err-map_err.was left in
+    let told = err_from_is_err_and c.from_residual.result c.from_residual.ensures.1 in
+    let whole = line_stops (length l.yielded) (asked l.self) lines c.in-Some.line.now c.in-Some.line.now bad _ turn.0 turn.2 (stops.0 ∙ ap (λ (n : ℕ). n + 1) turn.1, stops.1) l.invariant in
+    record { value = rw (told.1, told.2) whole }
 
-pub returns-in-Some : goal.returns-in-Some
-returns-in-Some c =
-    let l = c.loop-rest in
-    let rest : List ℕ = l.rest.now in
-    let whole : Result Asked BadLine = lines_read 0 (Ok (asked c.args.self.now)) (lines_of c.args.text.now) in
-    record { value = text_ends l.lines (asked l.self) rest whole (none_from _ rest c.is_empty.ensures c.loop-rest-test.false) l.invariant.2 ∙ ap (λ (d : Option ℕ). day_named l.lines d (asked l.self)) c.in-Some.is }
+pub returns-in-Some-day : goal.returns-in-Some-day
+returns-in-Some-day c =
+    let l = c.loop-k in
+    let lines : List (List ℕ) = lines_of c.args.text.now in
+    let end = YieldsList-end (numbered_lines c.args.text.now c.split_terminator.ensures.text c.split_terminator.ensures.has_more c.split_terminator.ensures.pattern c.enumerate-k-items.ensures.source c.enumerate-k-items.ensures.count c.into_iter-k-iterator.ensures.into_iter_gives) l.yielded _ l.yielded_by _ c.next.new.self c.in-None.is c.next.ensures.steps in
+    record { value = text_ends (length l.yielded) (asked l.self) lines _ (omega (arith, end.1, length-enumerate_from 0 lines)) l.invariant ∙ ap (λ (d : Option ℕ). day_named (length l.yielded) d (asked l.self)) c.in-Some-day.is }
 
-pub returns-in-None : goal.returns-in-None
-returns-in-None c =
-    let l = c.loop-rest in
-    let rest : List ℕ = l.rest.now in
-    let whole : Result Asked BadLine = lines_read 0 (Ok (asked c.args.self.now)) (lines_of c.args.text.now) in
-    record { value = text_ends l.lines (asked l.self) rest whole (none_from _ rest c.is_empty.ensures c.loop-rest-test.false) l.invariant.2 ∙ ap (λ (d : Option ℕ). day_named l.lines d (asked l.self)) c.in-None.is }
+pub returns-in-None-day : goal.returns-in-None-day
+returns-in-None-day c =
+    let l = c.loop-k in
+    let lines : List (List ℕ) = lines_of c.args.text.now in
+    let end = YieldsList-end (numbered_lines c.args.text.now c.split_terminator.ensures.text c.split_terminator.ensures.has_more c.split_terminator.ensures.pattern c.enumerate-k-items.ensures.source c.enumerate-k-items.ensures.count c.into_iter-k-iterator.ensures.into_iter_gives) l.yielded _ l.yielded_by _ c.next.new.self c.in-None.is c.next.ensures.steps in
+    let many : length l.yielded ≡ length lines = end.1 ∙ length-enumerate_from 0 lines in
+    let counted : c.count.result ≡ length lines = count_from_yields_List _ c.count.result c.count.ensures.ran (lines_yielded c.args.text.now c.split_terminator-in-None-day.ensures.text c.split_terminator-in-None-day.ensures.has_more c.split_terminator-in-None-day.ensures.pattern) in
+    let ends = text_ends (length l.yielded) (asked l.self) lines _ (omega arith) l.invariant ∙ ap (λ (d : Option ℕ). day_named (length l.yielded) d (asked l.self)) c.in-None-day.is in
+    record { value = ends ∙ ap (λ (n : ℕ). Err (record { line = n; fault = NoDay })) (many ∙ sym counted) }
