@@ -12,5 +12,4 @@ mod Telling
 pub mod Finishing
 mod MonthSums
 pub mod Balance
-mod Alls
 mod Entered
