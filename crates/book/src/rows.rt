@@ -1,24 +1,16 @@
 // Rows of the two lists, each by one table.
 ghost use Rattle.std.specs.Prelude.{◌≡◌, ◌+◌, ◌*◌, ◌≤◌, min, length, slice_index_or, slice_set};
-ghost use Rattle.table.specs.Lines.{no_line, no_charge};
+ghost use Rattle.table.specs.Lines.{no_charge};
 ghost use Rattle.table.specs.Tables.{filled};
 
-use table::lines::{BuyerLine, ResourceLine};
+use table::lines::{Amounts, BuyerLine, ResourceLine};
 use table::table::Table;
 
 // Empties the lines of the first hours.
-pub(crate) fn clear_lines(lines: &mut [ResourceLine], width: u32, hours: u32)
-    ensures value { lines.new ≡ filled lines.old 0 (hours * width) (λ _. no_line) }
+pub(crate) fn clear<L: Amounts>(lines: &mut [L], width: u32, hours: u32)
+    ensures value { lines.new ≡ filled lines.old 0 (hours * width) (λ _. L.Amounts.empty) }
 {
     let mut table = Table::new(lines, width);
-    table.clear(hours);
-}
-
-// Empties the charges of the first hours.
-pub(crate) fn clear_charges(charges: &mut [BuyerLine], width: u32, hours: u32)
-    ensures value { charges.new ≡ filled charges.old 0 (hours * width) (λ _. no_charge) }
-{
-    let mut table = Table::new(charges, width);
     table.clear(hours);
 }
 
