@@ -1,11 +1,12 @@
 -- Opening a book: what it is tested for, and what it leaves.
-use Rattle.std.specs.Prelude.{ℕ, ◌*◌, Bool, cond, not, ◌&&◌, ◌||◌, List, [], ◌∷◌, length, replicate, Some, None, Option, ◌==◌, nat_le, nat_lt, slice_index, slice_index_or}
+use Rattle.std.specs.Prelude.{ℕ, ◌*◌, Bool, cond, not, ◌&&◌, ◌||◌, List, [], ◌∷◌, length, replicate, Some, None, Option, ◌==◌, nat_lt, slice_index, slice_index_or}
 use Rattle.std.specs.List.{list_all}
 use Rattle.refusal.specs.declared.Refusal.{Refusal}
 use Rattle.refusal.specs.declared.Refusal.TheVariants.{BadMonth, BadClasses, BadFirstDay, ResourceCount, BadResource, BuyerCount, AlreadyOpened, ShortLists}
 use Rattle.refusal.specs.Tests.{refused_if, first_of}
 use Rattle.settlement.specs.declared.terms.Kind.{Kind}
 use Rattle.settlement.specs.declared.terms.Kind.TheVariants.{Standard}
+use Rattle.settlement.specs.Hours.{from_to}
 use Rattle.settlement.specs.Kinds.{kind_numbered}
 use Rattle.table.specs.Lines.{no_line, no_charge}
 use Rattle.table.specs.Tables.{filled}
@@ -24,9 +25,6 @@ pub record Opening : Type 0 where
   pub first_day : ℕ
   pub buyers : ℕ
   pub resources : List Registration
-
-abbrev pub from_to : ℕ → ℕ → ℕ → Bool
-from_to low high n = nat_le low n && nat_le n high
 
 -- a month can have so many days: February 28 or 29
 abbrev pub month_has : ℕ → ℕ → Bool

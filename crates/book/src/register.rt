@@ -22,6 +22,7 @@ pub struct Resource {
 }
 
 // The plain part of a book: its number, its month and days, its resources and buyers.
+// Stays: (d) the classes are the opening's own bytes, as the definitions have them, and one place turns a byte into a `DayClass`.
 #[derive(Clone, Copy, PartialEq, Eq)]
 pub struct Register {
     pub number: u32,
@@ -39,7 +40,7 @@ impl Resource {
     fn enter(&mut self, registration: Registration)
         ensures value { self.new ≡ resource_of registration }
     {
-        self.kind = Kind::numbered(registration.kind).unwrap_or(Kind::Standard);
+        self.kind = Kind::try_from(registration.kind).unwrap_or(Kind::Standard);
         self.aggregator = registration.aggregator;
         self.customers = registration.customers;
     }
