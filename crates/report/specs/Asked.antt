@@ -1,5 +1,5 @@
 -- What a text asks for, line by line.
-use Rattle.std.specs.Prelude.{◌≡◌, ℕ, suc, Bool, true, false, cond, List, [], ◌∷◌, drop, replicate, Some, None, Ok, Err, vec_items, Option, Result, ◌==◌}
+use Rattle.std.specs.Prelude.{◌≡◌, ℕ, suc, Bool, true, false, cond, List, [], ◌∷◌, drop, replicate, Some, None, Ok, Err, Option, Result, ◌==◌}
 use Rattle.report.specs.declared.fault.BadLine.{BadLine}
 use Rattle.report.specs.declared.fault.Fault.{Fault}
 use Rattle.report.specs.declared.fault.Fault.TheVariants.{LoadsAndReadings, NoDay}
@@ -7,7 +7,6 @@ use Rattle.report.specs.declared.hour.Purchases.{Purchases}
 use Rattle.report.specs.declared.hour.Settling.{Settling}
 use Rattle.report.specs.declared.meter.Meter.{Meter}
 use Rattle.report.specs.declared.meter.Meter.TheVariants.{Loads, Readings}
-use Rattle.report.specs.declared.request.Request.{Request}
 use Rattle.report.specs.declared.word.Word.{Word}
 use Rattle.report.specs.declared.word.Word.TheVariants.{Day, Customers, Workday, Holiday, LeftOut, Start, Load, Reading, Settle, Energy}
 use Rattle.report.specs.Lines.{only_number, days_marked, start_marked, written, place_in, settling_in, purchases_in}
@@ -26,10 +25,6 @@ pub record Asked : Type 0 where
   pub numbers : List ℕ
   pub settling : Option Settling
   pub purchases : Option Purchases
-
--- what a request holds
-abbrev pub asked : Request → Asked
-asked q = record { day = q.day; customers = q.customers; classes = q.classes; left_out = q.left_out; starts = q.starts; meter = q.meter; numbers = vec_items q.numbers; settling = q.settling; purchases = q.purchases }
 
 -- a place for each reading of 16 customers, with a number that counts as missing
 unfoldable pub unread : List ℕ
@@ -120,8 +115,3 @@ read_from a text = lines_read 0 (Ok a) (lines_of text)
 abbrev pub Reads : {U : Type 0} → Result U BadLine → Result Asked BadLine → Asked → Type 0
 Reads (Ok u) whole exit = whole ≡ Ok exit
 Reads (Err bad) whole exit = whole ≡ Err bad
-
--- what the request of an answer holds
-abbrev pub answered : Result Request BadLine → Result Asked BadLine
-answered (Ok q) = Ok (asked q)
-answered (Err bad) = Err bad

@@ -1,7 +1,6 @@
 // What a request holds, for those who report on it.
 ghost use Rattle.std.specs.Prelude.{◌≡◌, ◌≤◌};
 ghost use Rattle.std.specs.Option.{option_map, unwrap_or};
-ghost use Rattle.report.specs.Asked.{asked};
 
 use crate::hour::{Purchases, Settling};
 use crate::meter::Meter;
@@ -17,14 +16,14 @@ use load::register::RegisterRecord;
 impl Request {
     // The day that is reported on.
     pub fn day(&self) -> u32
-        ensures value { result ≡ unwrap_or (asked self.now).day 0 }
+        ensures value { result ≡ unwrap_or self.now.day 0 }
     {
         self.day.unwrap_or(0)
     }
 
     // How many customers are reported on.
     pub fn customers(&self) -> u32
-        ensures value { result ≡ (asked self.now).customers }
+        ensures value { result ≡ self.now.customers }
         ensures bounded { result ≤ 16 }
     {
         self.customers
@@ -32,29 +31,29 @@ impl Request {
 
     // Whether the text has loads or readings, if it has either.
     pub fn meter(&self) -> Option<Meter>
-        ensures value { result ≡ (asked self.now).meter }
+        ensures value { result ≡ self.now.meter }
     {
         self.meter
     }
 
     // The hour to be settled, if the text names one.
     pub fn settling(&self) -> Option<Settling>
-        ensures value { result ≡ (asked self.now).settling }
+        ensures value { result ≡ self.now.settling }
     {
         self.settling
     }
 
     // What the buyers purchased in that hour, if the text says so.
     pub fn purchases(&self) -> Option<&Purchases>
-        ensures value { option_map (λ x. x.now) result ≡ (asked self.now).purchases }
+        ensures value { option_map (λ x. x.now) result ≡ self.now.purchases }
     {
         self.purchases.as_ref()
     }
 
     // The numbers as hourly loads.
     pub fn intervals(&self) -> IntervalRecord<'_>
-        ensures loads { result.loads.now ≡ (asked self.now).numbers }
-        ensures classes { result.classes.now ≡ (asked self.now).classes }
+        ensures loads { result.loads.now ≡ self.now.numbers }
+        ensures classes { result.classes.now ≡ self.now.classes }
     {
         IntervalRecord {
             loads: &self.numbers,
@@ -64,8 +63,8 @@ impl Request {
 
     // The numbers as register readings.
     pub fn registers(&self) -> RegisterRecord<'_>
-        ensures readings { result.readings.now ≡ (asked self.now).numbers }
-        ensures classes { result.classes.now ≡ (asked self.now).classes }
+        ensures readings { result.readings.now ≡ self.now.numbers }
+        ensures classes { result.classes.now ≡ self.now.classes }
     {
         RegisterRecord {
             readings: &self.numbers,
@@ -79,9 +78,9 @@ impl Request {
         loads: R,
         method: Method,
     ) -> Adjusted<'_, Ranked<LeftOut<'_, R>>>
-        ensures starts { result.starts.now ≡ (asked self.now).starts }
+        ensures starts { result.starts.now ≡ self.now.starts }
         ensures chooses { result.below.method ≡ method }
-        ensures left { result.below.loads.marks.now ≡ (asked self.now).left_out }
+        ensures left { result.below.loads.marks.now ≡ self.now.left_out }
         ensures holds { result.below.loads.below ≡ loads }
     {
         let standing = LeftOut {

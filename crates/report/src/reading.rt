@@ -1,6 +1,6 @@
 // The text of a report, read line by line.
 ghost use Rattle.std.specs.Prelude.{◌≡◌, IfOk};
-ghost use Rattle.report.specs.Asked.{asked, nothing_asked, metered_by, Leaves, after_word, after_line, Reads, answered, read_from};
+ghost use Rattle.report.specs.Asked.{nothing_asked, metered_by, Leaves, after_word, after_line, Reads, read_from};
 
 use crate::fault::{BadLine, Fault};
 use crate::fields::{numbers_of, word_of};
@@ -34,7 +34,7 @@ const LEFT_OUT: u8 = 1;
 impl Request {
     // A request with nothing in it yet: one customer, no day of a class, no load.
     pub fn new(heap: Global) -> Result<Request, AllocError>
-        ensures value { IfOk result (λ q. asked q ≡ nothing_asked) }
+        ensures value { IfOk result (λ q. q ≡ nothing_asked) }
     {
         Ok(Request {
             day: None,
@@ -51,7 +51,7 @@ impl Request {
 
     // Notes what a meter read on a day from an hour on.
     fn read_meter(&mut self, meter: Meter, numbers: &[u32]) -> Result<(), Fault>
-        ensures value { Leaves result (metered_by meter numbers.now (asked self.old)) (asked self.old) (asked self.new) }
+        ensures value { Leaves result (metered_by meter numbers.now self.old) self.old self.new }
     {
         if self.meter.unwrap_or(meter) != meter {
             return Err(Fault::LoadsAndReadings);
@@ -65,7 +65,7 @@ impl Request {
 
     // Takes a word and its numbers.
     fn take(&mut self, word: Word, numbers: &[u32]) -> Result<(), Fault>
-        ensures value { Leaves result (after_word word numbers.now (asked self.old)) (asked self.old) (asked self.new) }
+        ensures value { Leaves result (after_word word numbers.now self.old) self.old self.new }
     {
         match word {
             Word::Day => self.day = Some(only_number(numbers, 0, DAYS - 1)?),
@@ -84,7 +84,7 @@ impl Request {
 
     // Takes a line; an empty one, or one that begins with #, is passed over.
     fn take_line(&mut self, line: &str) -> Result<(), Fault>
-        ensures value { Leaves result (after_line line.now (asked self.old)) (asked self.old) (asked self.new) }
+        ensures value { Leaves result (after_line line.now self.old) self.old self.new }
     {
         if line.is_empty() || line.starts_with('#') {
             return Ok(());
@@ -96,24 +96,24 @@ impl Request {
 
     // Takes the lines of a text; the first bad one ends it.
     fn read_lines(&mut self, text: &str) -> Result<(), BadLine>
-        ensures value { Reads result (read_from (asked self.old) text.now) (asked self.new) }
+        ensures value { Reads result (read_from self.old text.now) self.new }
     {
         for (k, line) in text.split_terminator('\n').enumerate() {
             self.take_line(line)
                 .map_err(|fault| BadLine { line: k + 1, fault })?;
         }
-        match self.day {
-            Some(_) => Ok(()),
-            None => Err(BadLine {
+        if self.day.is_none() {
+            return Err(BadLine {
                 line: text.split_terminator('\n').count(),
                 fault: Fault::NoDay,
-            }),
+            });
         }
+        Ok(())
     }
 
     // The request with what a text asks for, or the text's first bad line.
     pub fn read(mut self, text: &str) -> Result<Request, BadLine>
-        ensures value { answered result ≡ read_from (asked self) text.now }
+        ensures value { result ≡ read_from self text.now }
     {
         self.read_lines(text)?;
         Ok(self)

@@ -1,8 +1,8 @@
 use Rattle.std.proofs.Common.{◌≡◌, length, drop, Ok}
-use Rattle.report.specs.Asked.{asked, lines_read}
+use Rattle.report.specs.Asked.{lines_read}
 use Rattle.report.specs.Pieces.{lines_of}
 use Rattle.report.proofs.request.Request.read_lines.Given as goal
 
 abbrev pub invariant-loop-k : goal.invariant-loop-k
 invariant-loop-k l =
-    lines_read (length l.yielded) (Ok (asked l.self)) (drop (length l.yielded) (lines_of l.text)) ≡ lines_read 0 (Ok (asked l.initial.self)) (lines_of l.text)
+    lines_read (length l.yielded) (Ok l.self) (drop (length l.yielded) (lines_of l.text)) ≡ lines_read 0 (Ok l.initial.self) (lines_of l.text)
