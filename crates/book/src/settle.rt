@@ -12,8 +12,7 @@ use crate::rows::put_line;
 use baseline::source::BaselineSource;
 use load::loads::DayClass;
 use refusal::Refusal;
-use settlement::settle::settle_line;
-use settlement::terms::{Line, Portfolio, Slot, Terms};
+use settlement::terms::{Line, Portfolio, ResourceHour, Slot, Terms};
 use table::lines::{BuyerLine, ResourceLine};
 
 // The resource and its hour, the terms, the marks of the customers that take part, and the scheduled and the mandatory source.
@@ -72,16 +71,12 @@ impl Book {
         requires resource_known { settling.now.resource < self.now.register.enrolled }
         ensures value { result ≡ reckon self.now.register (asked_by S.BaselineSource.meaning M.BaselineSource.meaning settling.now) }
     {
-        let portfolio = self.register.resources[settling.resource as usize].portfolio();
-        let slot = self.slot(settling.at);
-        settle_line(
-            settling.scheduled,
-            settling.mandatory,
-            settling.marks,
-            portfolio,
-            slot,
-            settling.terms,
-        )
+        let hour = ResourceHour {
+            portfolio: self.register.resources[settling.resource as usize].portfolio(),
+            slot: self.slot(settling.at),
+            terms: settling.terms,
+        };
+        hour.settle(settling.scheduled, settling.mandatory, settling.marks)
     }
 
     // Settles a resource's hour that is not allotted, over two sources; the line replaces the one before.
