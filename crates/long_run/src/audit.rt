@@ -1,13 +1,13 @@
 // What a desk should hold, and how often it was compared.
 use crate::counts::{Call, Counts};
 use crate::desk::Desk;
-use crate::hours::MonthHour;
 use crate::ledger::Ledger;
 use crate::plain::{Entry, WAYS};
 use crate::random::Random;
 use crate::readings::Reading;
 use crate::sheets::{holds, text_of};
 use baseline::method::Method;
+use book::month_hour::MonthHour;
 use refusal::Refusal;
 use sheet::sheet::write_sheet;
 use std::alloc::{AllocError, Global};
@@ -86,7 +86,7 @@ impl Audit {
             Some(way) => (way.text, Ok(())),
             None => ("max46", Err(Refusal::UnknownMethod)),
         };
-        let got = Method::named(text).map(|_| ());
+        let got = text.parse::<Method>().map(|_| ());
         self.counts.note(Call::Method, expected, got);
     }
 

@@ -5,12 +5,15 @@ ghost use Rattle.book.specs.Slips.{Finishes, Keeps};
 ghost use Rattle.long_run.specs.Keeping.{on_desk, New, KeepsOthers};
 
 use crate::desk::Desk;
-use crate::hours::{MonthHour, Settling};
 use baseline::source::BaselineSource;
 use book::book::Book;
-use book::reconcile::Reconciliation;
+use book::month_hour::MonthHour;
+use book::settle::Settling;
 use book::slip::{RefusedSlip, Slip};
 use refusal::Refusal;
+
+// The hour of the calls over lists that are too short.
+const FIRST: MonthHour = MonthHour { day: 1, hour: 1 };
 
 impl Desk {
     // Tells an hour's energies.
@@ -18,7 +21,7 @@ impl Desk {
         ensures keeps { Keeps (on_desk self.old) (on_desk self.new) }
     {
         self.book
-            .tell(&self.lines, &self.charges, at.day, at.hour, total, others)
+            .tell(&self.lines, &self.charges, at, total, others)
     }
 
     // Settles a resource's hour.
@@ -28,17 +31,7 @@ impl Desk {
     ) -> Result<(), Refusal>
         ensures keeps { Keeps (on_desk self.old) (on_desk self.new) }
     {
-        self.book.settle(
-            &mut self.lines,
-            &self.charges,
-            settling.resource,
-            settling.at.day,
-            settling.at.hour,
-            settling.terms,
-            settling.marks,
-            settling.scheduled,
-            settling.mandatory,
-        )
+        self.book.settle(&mut self.lines, &self.charges, settling)
     }
 
     // Withdraws a line.
@@ -46,15 +39,14 @@ impl Desk {
         ensures keeps { Keeps (on_desk self.old) (on_desk self.new) }
     {
         self.book
-            .withdraw(&mut self.lines, &self.charges, resource, at.day, at.hour)
+            .withdraw(&mut self.lines, &self.charges, resource, at)
     }
 
     // Allots an hour.
     pub fn allot(&mut self, at: MonthHour) -> Result<(), Refusal>
         ensures keeps { Keeps (on_desk self.old) (on_desk self.new) }
     {
-        self.book
-            .allot(&self.lines, &mut self.charges, at.day, at.hour)
+        self.book.allot(&self.lines, &mut self.charges, at)
     }
 
     // Reopens an hour.
@@ -63,8 +55,7 @@ impl Desk {
         ensures finishes { IfOk result (λ slip. Finishes (on_desk self.new) (named_by slip)) }
         ensures apart { IfOk result (λ slip. New (on_desk self.old) (named_by slip)) }
     {
-        self.book
-            .reopen(&self.lines, &mut self.charges, at.day, at.hour)
+        self.book.reopen(&self.lines, &mut self.charges, at)
     }
 
     // Finishes an hour with a slip that is known to be good.
@@ -85,23 +76,18 @@ impl Desk {
         self.book.finish(&self.lines, &mut self.charges, slip)
     }
 
-    // Adds up the month.
-    pub fn reconcile(&self) -> Result<Reconciliation, Refusal> {
-        self.book.reconcile(&self.lines, &self.charges)
-    }
-
     // Tells energies over no lines.
     pub fn tell_short(&mut self) -> Result<(), Refusal> {
-        self.book.tell(&[], &self.charges, 1, 1, 3, &[1, 1])
+        self.book.tell(&[], &self.charges, FIRST, 3, &[1, 1])
     }
 
     // Withdraws a line over no charges.
     pub fn withdraw_short(&mut self) -> Result<(), Refusal> {
-        self.book.withdraw(&mut self.lines, &[], 0, 1, 1)
+        self.book.withdraw(&mut self.lines, &[], 0, FIRST)
     }
 
     // Allots an hour over no lines.
     pub fn allot_short(&mut self) -> Result<(), Refusal> {
-        self.book.allot(&[], &mut self.charges, 1, 1)
+        self.book.allot(&[], &mut self.charges, FIRST)
     }
 }

@@ -65,9 +65,11 @@ pub struct Counts {
     pub differences: u32,
 }
 
-// One more.
-fn add_one(count: &mut u32) {
-    *count = count.saturating_add(1);
+// One more at a place.
+fn add_at(counts: &mut [u32], place: usize) {
+    if let Some(count) = counts.get_mut(place) {
+        *count = count.saturating_add(1);
+    }
 }
 
 impl Counts {
@@ -89,27 +91,23 @@ impl Counts {
         expected: Result<T, Refusal>,
         got: Result<T, Refusal>,
     ) {
-        self.calls.get_mut(call as usize).map(add_one);
+        add_at(&mut self.calls, call as usize);
         match got {
-            Ok(_) => add_one(&mut self.granted),
-            Err(refusal) => {
-                self.refusals
-                    .get_mut(refusal.number() as usize)
-                    .map(add_one);
-            }
+            Ok(_) => self.granted = self.granted.saturating_add(1),
+            Err(refusal) => add_at(&mut self.refusals, refusal.number() as usize),
         }
         self.agree(expected == got);
     }
 
     // Counts a comparison of what a call answers.
     pub fn compared(&mut self, call: Call) {
-        self.compared.get_mut(call as usize).map(add_one);
+        add_at(&mut self.compared, call as usize);
     }
 
     // Counts a difference unless two values agree.
     pub fn agree(&mut self, same: bool) {
         if !same {
-            add_one(&mut self.differences);
+            self.differences = self.differences.saturating_add(1);
         }
     }
 }

@@ -1,9 +1,9 @@
 // What the calls are drawn from.
 ghost use Rattle.std.specs.Prelude.{◌≤◌};
 
-use crate::hours::MonthHour;
 use crate::plain::{Choice, SORTS, WAYS};
 use crate::random::Random;
+use book::month_hour::MonthHour;
 use settlement::terms::Terms;
 
 impl Random {

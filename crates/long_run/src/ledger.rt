@@ -1,12 +1,13 @@
 // What the book should hold, kept apart from it: 30 days, three resources and three buyers.
-use crate::hours::{MonthHour, ResourceHour, Settling};
 use crate::meters::Meters;
 use crate::plain::{Choice, Entry};
 use crate::resources::{FIRST_DAY, MONTH, RESOURCES};
+use book::month_hour::MonthHour;
 use book::reconcile::Reconciliation;
+use book::settle::Settling;
 use load::loads::DayClass;
 use refusal::Refusal;
-use settlement::terms::{Portfolio, Slot};
+use settlement::terms::{Portfolio, ResourceHour, Slot};
 use table::lines::BuyerLine;
 
 // How far an hour has come.

@@ -6,7 +6,6 @@ mod calls;
 mod counts;
 mod desk;
 mod draws;
-mod hours;
 mod ledger;
 mod meters;
 mod openings;

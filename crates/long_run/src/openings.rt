@@ -4,31 +4,10 @@ ghost use Rattle.std.specs.Prelude.{◌≤◌};
 use crate::counts::{Call, Counts};
 use crate::desk::Desk;
 use crate::random::Random;
-use book::book::Book;
 use book::open::Opening;
 use book::register::Registration;
 use refusal::Refusal;
 use std::array;
-use table::lines::{BuyerLine, ResourceLine};
-
-impl Desk {
-    // A desk with a book not yet opened.
-    pub fn new() -> Desk {
-        Desk {
-            book: Book::new(),
-            lines: [None; 2170],
-            charges: [BuyerLine {
-                charge: 0,
-                refund: 0,
-            }; 2165],
-        }
-    }
-
-    // Opens the book.
-    pub fn open(&mut self, opening: Opening) -> Result<(), Refusal> {
-        self.book.open(opening, &mut self.lines, &mut self.charges)
-    }
-}
 
 // The days of a month, February's the longer.
 fn days_of(month: u32) -> usize

@@ -1,11 +1,12 @@
 // The plain reckoning of a source and of a line, apart from the library.
-use crate::hours::{CustomerHour, ResourceHour, Settling};
 use crate::meters::Meters;
 use arrayvec::ArrayVec;
 use book::read::LineReading;
+use book::settle::Settling;
 use load::loads::DayClass;
+use load::places::CustomerHour;
 use refusal::{Cause, NoFigure, Refusal};
-use settlement::terms::{Kind, Slot, Terms};
+use settlement::terms::{Kind, ResourceHour, Slot, Terms};
 
 // What a source is made of.
 #[derive(Clone, Copy, PartialEq, Eq, Debug)]

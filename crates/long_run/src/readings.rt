@@ -1,10 +1,10 @@
 // The readings of a desk, each with what the ledger says of it.
 use crate::counts::Call;
 use crate::desk::Desk;
-use crate::hours::MonthHour;
 use crate::ledger::Ledger;
 use crate::plain::Entry;
 use book::book::Book;
+use book::month_hour::MonthHour;
 use refusal::Refusal;
 use table::lines::BuyerLine;
 
@@ -30,20 +30,14 @@ impl Reading for Entry {
     }
 
     fn read(desk: &Desk, number: u32, at: MonthHour) -> Result<Entry, Refusal> {
-        let line = desk
-            .book
-            .read_line(&desk.lines, &desk.charges, number, at.day, at.hour)?;
+        let line = desk.book.read_line(&desk.lines, &desk.charges, number, at)?;
         Ok(Entry::from(line))
     }
 
     fn read_short(desk: &Desk, number: u32, at: MonthHour) -> Result<Entry, Refusal> {
-        let line = desk.book.read_line(
-            &desk.lines[..2159],
-            &desk.charges,
-            number,
-            at.day,
-            at.hour,
-        )?;
+        let line = desk
+            .book
+            .read_line(&desk.lines[..2159], &desk.charges, number, at)?;
         Ok(Entry::from(line))
     }
 }
@@ -57,10 +51,11 @@ impl Reading for BuyerLine {
 
     fn read(desk: &Desk, number: u32, at: MonthHour) -> Result<BuyerLine, Refusal> {
         desk.book
-            .read_charge(&desk.lines, &desk.charges, number, at.day, at.hour)
+            .read_charge(&desk.lines, &desk.charges, number, at)
     }
 
     fn read_short(desk: &Desk, number: u32, at: MonthHour) -> Result<BuyerLine, Refusal> {
-        desk.book.read_charge(&desk.lines, &desk.charges[..2159], number, at.day, at.hour)
+        desk.book
+            .read_charge(&desk.lines, &desk.charges[..2159], number, at)
     }
 }

@@ -8,6 +8,7 @@ use baseline::ranked::Ranked;
 use baseline::source::BaselineSource;
 use load::interval::IntervalRecord;
 use load::left_out::LeftOut;
+use load::places::CustomerHour;
 use load::register::RegisterRecord;
 use refusal::{Cause, Refusal};
 
@@ -43,16 +44,16 @@ impl BaselineSource for Source<'_> {
 
     ghost meaning = { held_meaning };
 
-    fn metered(&self, customer: u32, day: u32, hour: u32) -> Option<u32> {
-        answer!(self, held => held.metered(customer, day, hour))
+    fn metered(&self, asked: CustomerHour) -> Option<u32> {
+        answer!(self, held => held.metered(asked))
     }
 
-    fn profile(&self, customer: u32, day: u32, hour: u32, at: u32) -> Result<u32, Cause> {
-        answer!(self, held => held.profile(customer, day, hour, at))
+    fn profile(&self, asked: CustomerHour, at: u32) -> Result<u32, Cause> {
+        answer!(self, held => held.profile(asked, at))
     }
 
-    fn baseline(&self, customer: u32, day: u32, hour: u32) -> Result<i32, Cause> {
-        answer!(self, held => held.baseline(customer, day, hour))
+    fn baseline(&self, asked: CustomerHour) -> Result<i32, Cause> {
+        answer!(self, held => held.baseline(asked))
     }
 }
 
@@ -99,7 +100,7 @@ impl Meters {
 
     // The source of a choice.
     pub fn source(&self, choice: Choice) -> Result<Source<'_>, Refusal> {
-        let method = Method::named(choice.way.text)?;
+        let method = choice.way.text.parse::<Method>()?;
         Ok(match choice.sort {
             Sort::Intervals => Source::Intervals(Ranked::new(self.intervals(), method)),
             Sort::LeftOutIntervals => {

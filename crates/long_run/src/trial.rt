@@ -7,11 +7,12 @@ ghost use Rattle.long_run.specs.Keeping.{on_desk, KeepsOthers};
 use crate::audit::Audit;
 use crate::counts::Call;
 use crate::desk::Desk;
-use crate::hours::{MonthHour, Settling};
 use crate::meters::Meters;
 use crate::openings::try_open;
 use crate::plain::{Choice, Entry};
 use crate::random::Random;
+use book::month_hour::MonthHour;
+use book::settle::Settling;
 use book::slip::{RefusedSlip, Slip};
 use refusal::Refusal;
 use std::alloc::{AllocError, Global};
@@ -32,30 +33,20 @@ pub struct Trial {
 fn offer(other: &mut Desk, audit: &mut Audit, slip: Slip) -> Option<Slip>
     ensures back { IfSome result (λ s. s ≡ slip) }
 {
-    match other.offer(slip) {
-        Ok(()) => {
-            audit
-                .counts
-                .note(Call::Finish, Err(Refusal::WrongSlip), Ok(()));
-            None
+    let (got, back) = match other.offer(slip) {
+        Ok(()) => (Ok(()), None),
+        Err(refused) => {
+            let RefusedSlip { refusal, slip } = refused;
+            (Err(refusal), Some(slip))
         }
-        Err(RefusedSlip { refusal, slip }) => {
-            audit
-                .counts
-                .note::<()>(Call::Finish, Err(Refusal::WrongSlip), Err(refusal));
-            Some(slip)
-        }
-    }
+    };
+    audit
+        .counts
+        .note(Call::Finish, Err(Refusal::WrongSlip), got);
+    back
 }
 
 impl Trial {
-    // An hour, often the one in focus.
-    fn hour(&mut self) -> MonthHour
-        ensures same { self.new.desk ≡ self.old.desk }
-    {
-        self.random.hour_by(self.focus)
-    }
-
     // Tells an hour's energies.
     fn try_tell(&mut self)
         ensures keeps { Keeps (on_desk self.old.desk) (on_desk self.new.desk) }
