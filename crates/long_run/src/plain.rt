@@ -8,7 +8,7 @@ use load::places::CustomerHour;
 use refusal::{Cause, NoFigure, Refusal};
 use settlement::terms::{Kind, ResourceHour, Slot, Terms};
 
-// What a source is made of.
+// The sorts of sources.
 #[derive(Clone, Copy, PartialEq, Eq, Debug)]
 pub enum Sort {
     Intervals,
@@ -102,11 +102,18 @@ pub const WAYS: [Way; 7] = [
     },
 ];
 
-// A source as the plain reckoning sees it.
+// What a source is made of, and its method.
 #[derive(Clone, Copy)]
 pub struct Choice {
     pub sort: Sort,
     pub way: Way,
+}
+
+// A source as the plain reckoning sees it.
+#[derive(Clone, Copy)]
+struct PlainSource<'a> {
+    meters: &'a Meters,
+    choice: Choice,
 }
 
 // A reference day by its load, and of equal loads by its number.
@@ -243,15 +250,6 @@ impl Meters {
         }
     }
 
-    // A metered load.
-    fn metered(&self, choice: Choice, asked: CustomerHour) -> Option<i64> {
-        if choice.sort.is_counted() {
-            self.counted(asked)
-        } else {
-            self.interval(asked)
-        }
-    }
-
     // The class of a day.
     fn class_on(&self, day: u32) -> DayClass {
         match self.classes.get(day as usize) {
@@ -261,30 +259,46 @@ impl Meters {
         }
     }
 
+    // A filed baseline, or its cause.
+    fn filed_at(&self, asked: CustomerHour) -> Result<i64, Cause> {
+        let place = place_of(asked).ok_or(Cause::OutOfRange)?;
+        match self.filed.get(place) {
+            Some(filed) if -40_000_000 <= *filed && *filed <= 40_000_000 => Ok(i64::from(*filed)),
+            _ => Err(Cause::MissingLoad),
+        }
+    }
+}
+
+impl PlainSource<'_> {
+    // A metered load.
+    fn metered(&self, asked: CustomerHour) -> Option<i64> {
+        if self.choice.sort.is_counted() {
+            self.meters.counted(asked)
+        } else {
+            self.meters.interval(asked)
+        }
+    }
+
     // A day with its load, if it may be a reference day.
-    fn reference(&self, choice: Choice, asked: CustomerHour, day: u32) -> Option<Reference> {
-        if choice.sort.leaves_out() && self.left.get(day as usize) == Some(&1) {
+    fn reference(&self, asked: CustomerHour, day: u32) -> Option<Reference> {
+        if self.choice.sort.leaves_out() && self.meters.left.get(day as usize) == Some(&1) {
             return None;
         }
-        let load = self.metered(choice, CustomerHour { day, ..asked })?;
+        let load = self.metered(CustomerHour { day, ..asked })?;
         Some(Reference { load, day })
     }
 
     // The reference days, the lowest first.
-    fn days_for(
-        &self,
-        choice: Choice,
-        asked: CustomerHour,
-    ) -> Result<ArrayVec<Reference, 10>, Cause> {
-        let way = choice.way;
+    fn days_for(&self, asked: CustomerHour) -> Result<ArrayVec<Reference, 10>, Cause> {
+        let way = self.choice.way;
         let mut days = ArrayVec::new();
         let nearest = (0..asked.day)
             .rev()
-            .filter(|day| self.class_on(*day) == way.class)
+            .filter(|day| self.meters.class_on(*day) == way.class)
             .take(way.reach);
         for day in nearest {
             if days.len() < way.n {
-                if let Some(reference) = self.reference(choice, asked, day) {
+                if let Some(reference) = self.reference(asked, day) {
                     let _ = days.try_push(reference);
                 }
             }
@@ -296,29 +310,16 @@ impl Meters {
         Ok(days)
     }
 
-    // The profile, or its cause.
-    fn profile(&self, choice: Choice, asked: CustomerHour, at: u32) -> Result<i64, Cause> {
-        if choice.sort.is_filed() {
-            return Err(Cause::MissingLoad);
-        }
-        if asked.hour > 24 {
-            return Err(Cause::OutOfRange);
-        }
-        let way = choice.way;
-        let days = self.days_for(choice, asked)?;
+    // The mean in an hour over the days that are left once the lowest and the highest are struck.
+    fn mean_of(&self, days: &[Reference], asked: CustomerHour) -> Result<i64, Cause> {
+        let way = self.choice.way;
+        let left = way.n.saturating_sub(way.high).saturating_sub(way.low);
         let mut sum: i64 = 0;
         let mut count: i64 = 0;
-        let left = way.n.saturating_sub(way.high).saturating_sub(way.low);
         for reference in days.iter().skip(way.low).take(left) {
+            let day = reference.day;
             let load = self
-                .metered(
-                    choice,
-                    CustomerHour {
-                        day: reference.day,
-                        hour: at,
-                        ..asked
-                    },
-                )
+                .metered(CustomerHour { day, ..asked })
                 .ok_or(Cause::MissingLoad)?;
             sum = sum.saturating_add(load);
             count = count.saturating_add(1);
@@ -326,60 +327,64 @@ impl Meters {
         Ok(mean(sum, count))
     }
 
-    // A filed baseline, or its cause.
-    fn filed_at(&self, asked: CustomerHour) -> Result<i64, Cause> {
-        let place = place_of(asked).ok_or(Cause::OutOfRange)?;
-        match self.filed.get(place) {
-            Some(filed) if -40_000_000 <= *filed && *filed <= 40_000_000 => Ok(i64::from(*filed)),
-            _ => Err(Cause::MissingLoad),
+    // The profile, or its cause.
+    fn profile(&self, asked: CustomerHour, at: u32) -> Result<i64, Cause> {
+        if self.choice.sort.is_filed() {
+            return Err(Cause::MissingLoad);
         }
+        if asked.hour > 24 {
+            return Err(Cause::OutOfRange);
+        }
+        let days = self.days_for(asked)?;
+        self.mean_of(&days, CustomerHour { hour: at, ..asked })
     }
 
     // What is metered less the profile in the three hours before a start, if all of it is there.
-    fn gap_before(&self, choice: Choice, start: CustomerHour) -> Option<i64> {
+    fn gap_before(&self, start: CustomerHour) -> Option<i64> {
         let mut gap: i64 = 0;
         for back in [4, 3, 2] {
             let at = start.hour.checked_sub(back)?;
-            let load = self.metered(choice, CustomerHour { hour: at, ..start })?;
-            let profile = self.profile(choice, start, at).ok()?;
+            let load = self.metered(CustomerHour { hour: at, ..start })?;
+            let profile = self.profile(start, at).ok()?;
             gap = gap.saturating_add(load).saturating_sub(profile);
         }
         Some(gap)
     }
 
     // What a day's first order adds to the baselines of the day.
-    fn added(&self, choice: Choice, asked: CustomerHour) -> i64 {
-        let start = self.starts.get(asked.day as usize).copied().unwrap_or(0);
-        if !choice.sort.is_adjusted() || start < 5 {
+    fn added(&self, asked: CustomerHour) -> i64 {
+        let start = self.meters.starts.get(asked.day as usize);
+        let start = start.copied().unwrap_or(0);
+        if !self.choice.sort.is_adjusted() || start < 5 {
             return 0;
         }
         let first = CustomerHour {
             hour: u32::from(start),
             ..asked
         };
-        self.gap_before(choice, first).map_or(0, third)
+        self.gap_before(first).map_or(0, third)
     }
 
     // The baseline, or its cause.
-    fn baseline(&self, choice: Choice, asked: CustomerHour) -> Result<i64, Cause> {
-        let below = if choice.sort.is_filed() {
-            self.filed_at(asked)?
+    fn baseline(&self, asked: CustomerHour) -> Result<i64, Cause> {
+        let below = if self.choice.sort.is_filed() {
+            self.meters.filed_at(asked)?
         } else {
-            self.profile(choice, asked, asked.hour)?
+            self.profile(asked, asked.hour)?
         };
-        let added = self.added(choice, asked);
+        let added = self.added(asked);
         Ok(below.saturating_add(added).clamp(-40_000_000, 40_000_000))
     }
 
     // A customer's cut, or its cause.
-    fn cut(&self, choice: Choice, asked: CustomerHour) -> Result<i64, Cause> {
-        let baseline = self.baseline(choice, asked)?;
-        let load = self.metered(choice, asked).ok_or(Cause::MissingLoad)?;
+    fn cut(&self, asked: CustomerHour) -> Result<i64, Cause> {
+        let baseline = self.baseline(asked)?;
+        let load = self.metered(asked).ok_or(Cause::MissingLoad)?;
         Ok(baseline.saturating_sub(load))
     }
 
     // The cuts of the customers whose mark is 1 added up, or the first without one.
-    fn cuts(&self, choice: Choice, hour: ResourceHour, marks: &[u8]) -> Result<i64, NoFigure> {
+    fn cuts(&self, hour: ResourceHour, marks: &[u8]) -> Result<i64, NoFigure> {
         let mut sum: i64 = 0;
         for (customer, mark) in (0..hour.portfolio.customers).zip(marks) {
             if *mark == 1 {
@@ -389,12 +394,22 @@ impl Meters {
                     hour: hour.slot.hour,
                 };
                 let cut = self
-                    .cut(choice, asked)
+                    .cut(asked)
                     .map_err(|cause| NoFigure { customer, cause })?;
                 sum = sum.saturating_add(cut);
             }
         }
         Ok(sum)
+    }
+}
+
+impl Meters {
+    // A source as the plain reckoning sees it.
+    fn plain(&self, choice: Choice) -> PlainSource<'_> {
+        PlainSource {
+            meters: self,
+            choice,
+        }
     }
 
     // The line of a settling, or why there is none.
@@ -406,15 +421,15 @@ impl Meters {
         may_settle(hour)?;
         let mut sr = 0;
         if hour.terms.plan > 0 {
-            sr = self
-                .cuts(*settling.scheduled, hour, settling.marks)
+            let source = self.plain(*settling.scheduled);
+            sr = source
+                .cuts(hour, settling.marks)
                 .map_err(Refusal::Scheduled)?;
         }
         let mut dr = 0;
         if hour.terms.order > 0 {
-            dr = self
-                .cuts(*settling.mandatory, hour, &[1; 16])
-                .map_err(Refusal::Mandatory)?;
+            let source = self.plain(*settling.mandatory);
+            dr = source.cuts(hour, &[1; 16]).map_err(Refusal::Mandatory)?;
         }
         Ok(figures(hour.terms, sr, dr))
     }

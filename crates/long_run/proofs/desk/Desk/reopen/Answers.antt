@@ -14,5 +14,5 @@ returns c =
     record {
       keeps = λ slip e. kept slip c.reopen.ensures.book (finishes_reopened b slip e c.args.at.day c.args.at.hour);
       finishes = c.reopen.ensures.finishes;
-      apart = if_granted (refusal (reopen c.args.at.day c.args.at.hour) b) (fresh b.register.number c.args.at.day c.args.at.hour) c.reopen.ensures.answer (λ none s e. finishes_elsewhere b s e c.args.at.day c.args.at.hour none);
+      apart = if_granted _ (refusal (reopen c.args.at.day c.args.at.hour) b) (fresh b.register.number c.args.at.day c.args.at.hour) c.reopen.ensures.answer (λ none s e. finishes_elsewhere b s e c.args.at.day c.args.at.hour none);
     }
