@@ -2,7 +2,7 @@
 ghost use Rattle.std.specs.Prelude.{◌≡◌, IfSome};
 ghost use Rattle.book.specs.Seen.{named_by};
 ghost use Rattle.book.specs.Slips.{Finishes, Keeps};
-ghost use Rattle.long_run.specs.Keeping.{on_desk, KeepsOthers};
+ghost use Rattle.long_run.specs.Keeping.{on_desk, New, KeepsOthers};
 
 use crate::audit::Audit;
 use crate::counts::Call;
@@ -163,20 +163,34 @@ impl Trial {
             .check(&self.desk, at, Call::Finish, expected, Ok(()));
     }
 
+    // Reopens an hour, and answers its slip if nothing is refused.
+    fn reopen(&mut self, at: MonthHour) -> Option<Slip>
+        ensures keeps { Keeps (on_desk self.old.desk) (on_desk self.new.desk) }
+        ensures finishes { IfSome result (λ slip. Finishes (on_desk self.new.desk) (named_by slip)) }
+        ensures apart { IfSome result (λ slip. New (on_desk self.old.desk) (named_by slip)) }
+    {
+        let expected = self.audit.ledger.reopen(at);
+        match self.desk.reopen(at) {
+            Err(refusal) => {
+                self.audit.counts.note(Call::Reopen, expected, Err(refusal));
+                None
+            }
+            Ok(slip) => {
+                self.audit.counts.note(Call::Reopen, expected, Ok(()));
+                Some(slip)
+            }
+        }
+    }
+
     // Reopens an hour, makes two calls and finishes it.
     fn correct_within(&mut self)
         ensures keeps { Keeps (on_desk self.old.desk) (on_desk self.new.desk) }
     {
         let at = self.random.hour_by(self.focus);
-        let expected = self.audit.ledger.reopen(at);
-        match self.desk.reopen(at) {
-            Err(refusal) => self.audit.counts.note(Call::Reopen, expected, Err(refusal)),
-            Ok(slip) => {
-                self.audit.counts.note(Call::Reopen, expected, Ok(()));
-                self.one_call();
-                self.one_call();
-                self.finish(at, slip);
-            }
+        if let Some(slip) = self.reopen(at) {
+            self.one_call();
+            self.one_call();
+            self.finish(at, slip);
         }
     }
 
@@ -197,15 +211,10 @@ impl Trial {
     // Reopens an hour, corrects it and perhaps another meanwhile, and finishes it.
     fn correct(&mut self) {
         let at = self.random.hour_by(self.focus);
-        let expected = self.audit.ledger.reopen(at);
-        match self.desk.reopen(at) {
-            Err(refusal) => self.audit.counts.note(Call::Reopen, expected, Err(refusal)),
-            Ok(slip) => {
-                self.audit.counts.note(Call::Reopen, expected, Ok(()));
-                self.focus = Some(at);
-                self.amend(at, slip);
-                self.focus = None;
-            }
+        if let Some(slip) = self.reopen(at) {
+            self.focus = Some(at);
+            self.amend(at, slip);
+            self.focus = None;
         }
     }
 
