@@ -5,10 +5,8 @@ mod Sound
 mod Slips
 mod History
 mod Decided
-mod Changed
 mod Charged
 mod Stepped
-mod Telling
 pub mod Finishing
 mod MonthSums
 pub mod Balance

@@ -1,10 +1,11 @@
 -- Opening a book: what it is tested for, and what it leaves.
-use Rattle.std.specs.Prelude.{ℕ, zero, suc, ◌*◌, Bool, true, cond, not, ◌&&◌, ◌||◌, List, [], ◌∷◌, length, replicate, Some, None, Option, ◌==◌, nat_le, nat_lt, slice_index, slice_index_or}
+use Rattle.std.specs.Prelude.{ℕ, zero, suc, ◌*◌, Bool, true, cond, not, ◌&&◌, ◌||◌, List, [], ◌∷◌, length, replicate, Some, None, Option, ◌==◌, nat_lt, slice_index, slice_index_or}
 use Rattle.refusal.specs.declared.Refusal.{Refusal}
 use Rattle.refusal.specs.declared.Refusal.TheVariants.{BadMonth, BadClasses, BadFirstDay, ResourceCount, BadResource, BuyerCount, AlreadyOpened, ShortLists}
 use Rattle.refusal.specs.Tests.{refused_if, first_of}
 use Rattle.settlement.specs.declared.terms.Kind.{Kind}
 use Rattle.settlement.specs.declared.terms.Kind.TheVariants.{Standard}
+use Rattle.settlement.specs.Hours.{from_to}
 use Rattle.settlement.specs.Kinds.{kind_numbered}
 use Rattle.table.specs.Lines.{no_line, no_charge}
 use Rattle.table.specs.Tables.{filled}
@@ -28,9 +29,6 @@ pub record Opening : Type 0 where
 abbrev pub all_to : ℕ → (ℕ → Bool) → Bool
 all_to zero f = true
 all_to (suc n) f = all_to n f && f n
-
-abbrev pub from_to : ℕ → ℕ → ℕ → Bool
-from_to low high n = nat_le low n && nat_le n high
 
 -- a month can have so many days: February 28 or 29
 abbrev pub month_has : ℕ → ℕ → Bool

@@ -1,5 +1,5 @@
 // Allotting an hour to its buyers, reopening it, and finishing its correction.
-ghost use Rattle.std.specs.Prelude.{◌≡◌, ◌+◌, ◌*◌, ◌^◌, ◌<◌, ◌≤◌, List, replicate, IfOk, None, slice_index_or, unsigned_abs};
+ghost use Rattle.std.specs.Prelude.{◌≡◌, ◌+◌, ◌*◌, ◌^◌, ◌<◌, ◌≤◌, List, replicate, IfOk, None, slice_index_or, slice_set, unsigned_abs};
 ghost use Rattle.share.specs.Shares.{shares};
 ghost use Rattle.won.specs.Sums.{total_to};
 ghost use Rattle.table.specs.Lines.{ResourceLine, no_line, no_charge, paid_of, fined_of};
@@ -12,7 +12,7 @@ ghost use Rattle.book.specs.Seen.{seen, named_by, fresh, granted_or, back_or};
 
 use crate::book::Book;
 use crate::energies::Energies;
-use crate::hour::{Hour, Step, step_at};
+use crate::hour::{Hour, Step};
 use crate::month_hour::{HourNumber, MonthHour};
 use crate::rows::{clear_row, put_row};
 use crate::slip::{RefusedSlip, Slip};
@@ -54,18 +54,19 @@ impl Book {
     // Steps an hour and answers its energies, or refuses and leaves it.
     pub(crate) fn step(&mut self, h: HourNumber, call: Step) -> Result<Energies, Refusal>
         ensures answer { result ≡ step_answer (step_refusal call (slice_index_or self.old.hours h.number Hour.Blank)) (slice_index_or self.old.hours h.number Hour.Blank) }
-        ensures book { (lines : List ResourceLine) (charges : List BuyerLine) → seen self.new lines charges ≡ with_hour (seen self.old lines charges) h.number (hour_after call (slice_index_or self.old.hours h.number Hour.Blank)) }
+        ensures register { self.new.register ≡ self.old.register }
+        ensures hours { self.new.hours ≡ slice_set self.old.hours h.number (hour_after call (slice_index_or self.old.hours h.number Hour.Blank)) }
     {
-        step_at(&mut self.hours, h.number as usize, call)
+        self.hours[h.number as usize].step(call)
     }
 
     // What an hour's lines are paid and fined together.
-    fn amounts_in(&self, lines: &[ResourceLine], h: u32) -> Sums
-        ensures due { result.due ≡ total_to self.now.register.enrolled (λ k. paid_of (slice_index_or lines.now (h * self.now.register.enrolled + k) no_line)) }
-        ensures back { result.back ≡ total_to self.now.register.enrolled (λ k. fined_of (slice_index_or lines.now (h * self.now.register.enrolled + k) no_line)) }
+    fn amounts_in(&self, lines: &[ResourceLine], h: HourNumber) -> Sums
+        ensures due { result.due ≡ total_to self.now.register.enrolled (λ k. paid_of (slice_index_or lines.now (h.number * self.now.register.enrolled + k) no_line)) }
+        ensures back { result.back ≡ total_to self.now.register.enrolled (λ k. fined_of (slice_index_or lines.now (h.number * self.now.register.enrolled + k) no_line)) }
         ensures bounded { (unsigned_abs result.due ≤ 2 ^ 36) × (unsigned_abs result.back ≤ 2 ^ 36) }
     {
-        row_sums(lines, self.register.enrolled, h)
+        row_sums(lines, self.register.enrolled, h.number)
     }
 
     // Writes each buyer's charge and refund of an hour.
@@ -73,14 +74,14 @@ impl Book {
         &self,
         lines: &[ResourceLine],
         charges: &mut [BuyerLine],
-        h: u32,
+        h: HourNumber,
         energies: Energies,
     )
-        ensures value { charges.new ≡ filled charges.old (h * self.now.register.buyers) self.now.register.buyers (charges_of (paid_in (seen self.now lines.now charges.old) h) (fined_in (seen self.now lines.now charges.old) h) energies.purchases) }
+        ensures value { charges.new ≡ filled charges.old (h.number * self.now.register.buyers) self.now.register.buyers (charges_of (paid_in (seen self.now lines.now charges.old) h.number) (fined_in (seen self.now lines.now charges.old) h.number) energies.purchases) }
     {
         let sums = self.amounts_in(lines, h);
         let row = charge_row(sums.due as i64, sums.back as i64, energies.purchases);
-        put_row(charges, self.register.buyers, h, &row);
+        put_row(charges, self.register.buyers, h.number, &row);
     }
 
     // Allots an hour that is open and whose energies were told.
@@ -95,7 +96,7 @@ impl Book {
     {
         let h = self.hour_place(lines, charges, at)?;
         let energies = self.step(h, Step::Allot)?;
-        self.charge_hour(lines, charges, h.number, energies);
+        self.charge_hour(lines, charges, h, energies);
         Ok(())
     }
 
@@ -116,6 +117,22 @@ impl Book {
         Ok(Slip::new(self.register.number, at))
     }
 
+    // Allots anew the hour of a slip of this book.
+    fn correct(
+        &mut self,
+        lines: &[ResourceLine],
+        charges: &mut [BuyerLine],
+        slip: &Slip,
+    ) -> Result<(), Refusal>
+        ensures answer { result ≡ granted_or (refusal (finish (named_by slip.now)) (seen self.old lines.now charges.old)) tt }
+        ensures book { seen self.new lines.now charges.new ≡ (step (finish (named_by slip.now)) (seen self.old lines.now charges.old)).1 }
+    {
+        let h = self.slip_place(lines, charges, slip)?;
+        let energies = self.step(h, Step::Finish)?;
+        self.charge_hour(lines, charges, h, energies);
+        Ok(())
+    }
+
     // Finishes the hour that a slip was handed out for, and spends the slip; a refusal hands it back.
     pub fn finish(
         &mut self,
@@ -126,15 +143,12 @@ impl Book {
         ensures answer { result ≡ back_or (refusal (finish (named_by slip)) (seen self.old lines.now charges.old)) slip }
         ensures book { seen self.new lines.now charges.new ≡ (step (finish (named_by slip)) (seen self.old lines.now charges.old)).1 }
     {
-        match self.slip_place(lines, charges, &slip) {
-            Ok(h) => match self.step(h, Step::Finish) {
-                Ok(energies) => {
-                    slip.spend();
-                    self.charge_hour(lines, charges, h.number, energies);
-                    Ok(())
-                }
-                Err(refusal) => Err(RefusedSlip { refusal, slip }),
-            },
+        // Stays: (d) either arm takes the slip, and one closure could not.
+        match self.correct(lines, charges, &slip) {
+            Ok(()) => {
+                slip.spend();
+                Ok(())
+            }
             Err(refusal) => Err(RefusedSlip { refusal, slip }),
         }
     }

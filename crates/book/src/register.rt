@@ -39,10 +39,7 @@ impl Resource {
     fn enter(&mut self, registration: Registration)
         ensures value { self.new ≡ resource_of registration }
     {
-        self.kind = match Kind::try_from(registration.kind) {
-            Ok(kind) => kind,
-            Err(_) => Kind::Standard,
-        };
+        self.kind = Kind::try_from(registration.kind).unwrap_or(Kind::Standard);
         self.aggregator = registration.aggregator;
         self.customers = registration.customers;
     }
