@@ -1,1 +1,2 @@
 mod Granted
+mod Kept

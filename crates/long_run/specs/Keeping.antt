@@ -1,22 +1,14 @@
 -- What every call on a desk leaves to the slips that are out.
-use Rattle.std.specs.Prelude.{◌≡◌, ◌≢◌, None}
+use Rattle.std.specs.Prelude.{◌≢◌}
 use Rattle.book.specs.State.{State, place}
-use Rattle.book.specs.Calls.{Slip, refusal}
-use Rattle.book.specs.Calls.Call.{finish}
+use Rattle.book.specs.Calls.{Slip}
 use Rattle.book.specs.Seen.{seen}
+use Rattle.book.specs.Slips.{Finishes}
 use Rattle.long_run.specs.declared.desk.Desk.{Desk}
 
 -- the book of a desk with its two lists
 abbrev pub on_desk : Desk → State
 on_desk d = seen d.book d.lines d.charges
-
--- a slip that could be finished with still can
-abbrev pub Keeps : State → State → Type 0
-Keeps b c = (slip : Slip) → refusal (finish slip) b ≡ None → refusal (finish slip) c ≡ None
-
--- the slip can be finished with
-abbrev pub Finishes : State → Slip → Type 0
-Finishes b slip = refusal (finish slip) b ≡ None
 
 -- two slips are for different hours
 abbrev pub Apart : Slip → Slip → Type 0
@@ -24,8 +16,8 @@ Apart s t = place s.day s.hour ≢ place t.day t.hour
 
 -- every slip that could be finished with is for another hour than this one
 abbrev pub New : State → Slip → Type 0
-New b slip = (s : Slip) → refusal (finish s) b ≡ None → Apart s slip
+New b slip = (s : Slip) → Finishes b s → Apart s slip
 
 -- a slip for another hour that could be finished with still can
 abbrev pub KeepsOthers : State → Slip → State → Type 0
-KeepsOthers b slip c = (s : Slip) → refusal (finish s) b ≡ None → Apart s slip → refusal (finish s) c ≡ None
+KeepsOthers b slip c = (s : Slip) → Finishes b s → Apart s slip → Finishes c s

@@ -1,78 +1,107 @@
 // Counts of calls, of refusals by their number, and of differences.
+use refusal::Refusal;
+use std::fmt;
 
-// How often each call was made, how often each refusal came, and how often an answer differed.
+// The calls as they are counted.
+#[derive(Clone, Copy, PartialEq, Eq, Debug)]
+pub enum Call {
+    Open,
+    Tell,
+    Settle,
+    Withdraw,
+    Allot,
+    Reopen,
+    Finish,
+    ReadLine,
+    ReadCharge,
+    Reconcile,
+    Method,
+    Sheet,
+}
+
+// Every call, in the order of their counts.
+pub const CALLS: [Call; 12] = [
+    Call::Open,
+    Call::Tell,
+    Call::Settle,
+    Call::Withdraw,
+    Call::Allot,
+    Call::Reopen,
+    Call::Finish,
+    Call::ReadLine,
+    Call::ReadCharge,
+    Call::Reconcile,
+    Call::Method,
+    Call::Sheet,
+];
+
+impl fmt::Display for Call {
+    fn fmt<W: fmt::Write>(&self, f: &mut fmt::Formatter<W>) -> fmt::Result {
+        let name = match self {
+            Call::Open => "open",
+            Call::Tell => "tell",
+            Call::Settle => "settle",
+            Call::Withdraw => "withdraw",
+            Call::Allot => "allot",
+            Call::Reopen => "reopen",
+            Call::Finish => "finish",
+            Call::ReadLine => "read line",
+            Call::ReadCharge => "read charge",
+            Call::Reconcile => "reconcile",
+            Call::Method => "method",
+            Call::Sheet => "sheet",
+        };
+        f.write_str(name)
+    }
+}
+
+// How often each call was made, granted and refused by each number, how often it was compared, and how often an answer differed.
 #[derive(Drop)]
 pub struct Counts {
     pub calls: [u32; 12],
+    pub granted: u32,
     pub refusals: [u32; 31],
-    pub lines: u32,
-    pub charges: u32,
+    pub compared: [u32; 12],
     pub differences: u32,
 }
 
-// The calls as they are counted.
-pub const OPEN: usize = 0;
-
-pub const TELL: usize = 1;
-
-pub const SETTLE: usize = 2;
-
-pub const WITHDRAW: usize = 3;
-
-pub const ALLOT: usize = 4;
-
-pub const REOPEN: usize = 5;
-
-pub const FINISH: usize = 6;
-
-pub const READ_LINE: usize = 7;
-
-pub const READ_CHARGE: usize = 8;
-
-pub const RECONCILE: usize = 9;
-
-pub const METHOD: usize = 10;
-
-pub const SHEET: usize = 11;
-
-// What the calls are called.
-pub const NAMES: [&str; 12] = [
-    "open",
-    "tell",
-    "settle",
-    "withdraw",
-    "allot",
-    "reopen",
-    "finish",
-    "read line",
-    "read charge",
-    "reconcile",
-    "method",
-    "sheet",
-];
+// One more at a place.
+fn add_at(counts: &mut [u32], place: usize) {
+    if let Some(count) = counts.get_mut(place) {
+        *count = count.saturating_add(1);
+    }
+}
 
 impl Counts {
     // Nothing counted yet.
     pub fn new() -> Counts {
         Counts {
             calls: [0; 12],
+            granted: 0,
             refusals: [0; 31],
-            lines: 0,
-            charges: 0,
+            compared: [0; 12],
             differences: 0,
         }
     }
 
-    // Counts a call with the code that it should answer and the one that it answered.
-    pub fn note(&mut self, call: usize, expected: u32, got: u32) {
-        if call < 12 {
-            self.calls[call] = self.calls[call].saturating_add(1);
-        }
-        let number = (got % 100) as usize;
-        if number < 31 {
-            self.refusals[number] = self.refusals[number].saturating_add(1);
+    // Counts a call with what it should answer and what it answered.
+    pub fn note<T: PartialEq + Copy>(
+        &mut self,
+        call: Call,
+        expected: Result<T, Refusal>,
+        got: Result<T, Refusal>,
+    ) {
+        add_at(&mut self.calls, call as usize);
+        match got {
+            Ok(_) => self.granted = self.granted.saturating_add(1),
+            Err(refusal) => add_at(&mut self.refusals, refusal.number() as usize),
         }
         self.agree(expected == got);
+    }
+
+    // Counts a comparison of what a call answers.
+    pub fn compared(&mut self, call: Call) {
+        add_at(&mut self.compared, call as usize);
     }
 
     // Counts a difference unless two values agree.

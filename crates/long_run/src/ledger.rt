@@ -1,311 +1,330 @@
 // What the book should hold, kept apart from it: 30 days, three resources and three buyers.
-use crate::plain::Entry;
+use crate::meters::Meters;
+use crate::plain::{Choice, Entry};
+use crate::resources::{FIRST_DAY, MONTH, RESOURCES};
+use book::month_hour::MonthHour;
+use book::reconcile::Reconciliation;
+use book::settle::Settling;
+use load::loads::DayClass;
+use refusal::Refusal;
+use settlement::terms::{Portfolio, ResourceHour, Slot};
+use table::lines::BuyerLine;
 
-// An hour: 0 open, 1 allotted or 2 in correction; the purchases if they were told; the lines that stand.
-#[derive(Clone, Copy)]
-pub struct HourNote {
-    pub state: u8,
-    pub told: bool,
-    pub purchases: [i64; 3],
-    pub entries: [Option<Entry>; 3],
+// How far an hour has come.
+#[derive(Clone, Copy, PartialEq, Eq, Debug)]
+pub enum HourState {
+    Open,
+    Allotted,
+    InCorrection,
 }
 
-// The hours of the month.
+// An hour, its purchases if they were told, and its lines.
+#[derive(Clone, Copy)]
+pub struct HourNote {
+    state: HourState,
+    purchases: Option<[i64; 3]>,
+    entries: [Option<Entry>; 3],
+}
+
+// The classes of the month's days, and its hours.
 #[derive(Drop)]
 pub struct Ledger {
+    classes: [u8; 30],
     hours: [HourNote; 720],
 }
 
-// What was paid, fined, charged and refunded, in won.
-#[derive(Clone, Copy, PartialEq, Eq)]
-pub struct Totals {
-    pub paid: i64,
-    pub fined: i64,
-    pub charged: i64,
-    pub refunded: i64,
+// What is paid and fined, or charged and refunded, in won.
+#[derive(Clone, Copy)]
+pub struct Sums {
+    pub due: i64,
+    pub back: i64,
 }
 
-// The number of an hour of the month, 720 for any other.
-fn number_of(day: u32, hour: u32) -> usize {
-    if day < 1 || day > 30 || hour < 1 || hour > 24 {
-        return 720;
+// Nothing added up yet.
+const NOTHING: Sums = Sums { due: 0, back: 0 };
+
+impl Sums {
+    // These sums with others.
+    fn plus(self, other: Sums) -> Sums {
+        Sums {
+            due: self.due.saturating_add(other.due),
+            back: self.back.saturating_add(other.back),
+        }
     }
-    (day as usize - 1) * 24 + hour as usize - 1
+}
+
+// The place of an hour in the month.
+fn place_of(at: MonthHour) -> Option<usize> {
+    if at.day < 1 || at.day > 30 || at.hour < 1 || at.hour > 24 {
+        return None;
+    }
+    Some((at.day as usize - 1) * 24 + at.hour as usize - 1)
+}
+
+// The sum of the first purchases.
+fn sum_of_first(purchases: &[i64], count: usize) -> i64 {
+    purchases
+        .iter()
+        .take(count)
+        .fold(0, |sum: i64, purchase| sum.saturating_add(*purchase))
+}
+
+// What buyers with a part of all purchases bear of an amount.
+fn borne(amount: i64, part: i64, all: i64) -> i64 {
+    if all <= 0 {
+        return 0;
+    }
+    amount.saturating_mul(part).div_euclid(all)
 }
 
 // A buyer's share of an amount: what all up to it bear, less what those before it bear.
 fn share(amount: i64, purchases: [i64; 3], buyer: usize) -> i64 {
-    let mut all: i64 = 0;
-    let mut before: i64 = 0;
-    let mut upto: i64 = 0;
-    for k in 0..3 {
-        all = all.saturating_add(purchases[k]);
-        if k < buyer {
-            before = before.saturating_add(purchases[k]);
-        }
-        if k <= buyer {
-            upto = upto.saturating_add(purchases[k]);
-        }
-    }
-    if all <= 0 {
-        return 0;
-    }
-    let low = amount.saturating_mul(before).div_euclid(all);
-    let high = amount.saturating_mul(upto).div_euclid(all);
-    high.saturating_sub(low)
+    let all = sum_of_first(&purchases, 3);
+    let upto = sum_of_first(&purchases, buyer.saturating_add(1));
+    let before = sum_of_first(&purchases, buyer);
+    borne(amount, upto, all).saturating_sub(borne(amount, before, all))
 }
 
 impl HourNote {
-    // What the lines of the hour are paid.
-    fn paid(&self) -> i64 {
-        let mut sum: i64 = 0;
-        for r in 0..3 {
-            if let Some(entry) = self.entries[r] {
-                sum = sum.saturating_add(entry.paid);
-            }
+    // What a resource's line is paid and fined.
+    fn line_sums(&self, resource: usize) -> Sums {
+        match self.entries.get(resource) {
+            Some(Some(entry)) => Sums {
+                due: entry.paid,
+                back: entry.fined,
+            },
+            _ => NOTHING,
         }
-        sum
     }
 
-    // What the lines of the hour are fined.
-    fn fined(&self) -> i64 {
-        let mut sum: i64 = 0;
-        for r in 0..3 {
-            if let Some(entry) = self.entries[r] {
-                sum = sum.saturating_add(entry.fined);
-            }
-        }
-        sum
+    // What the lines of the hour are paid and fined.
+    fn sums(&self) -> Sums {
+        (0..3)
+            .map(|resource| self.line_sums(resource))
+            .fold(NOTHING, |sums, line| sums.plus(line))
     }
+
+    // What a buyer is charged and refunded.
+    fn charge_sums(&self, buyer: usize) -> Sums {
+        let Some(purchases) = self.purchases else {
+            return NOTHING;
+        };
+        let sums = self.sums();
+        Sums {
+            due: share(sums.due, purchases, buyer),
+            back: share(sums.back, purchases, buyer),
+        }
+    }
+}
+
+// The hour of a settling, on a day of a class.
+fn resource_hour(
+    settling: &Settling<Choice, Choice>,
+    class: DayClass,
+) -> Result<ResourceHour, Refusal> {
+    let resource = RESOURCES
+        .get(settling.resource as usize)
+        .ok_or(Refusal::NoSuchResource)?;
+    Ok(ResourceHour {
+        portfolio: Portfolio {
+            kind: resource.kind,
+            customers: resource.customers,
+        },
+        slot: Slot {
+            month: MONTH,
+            class,
+            day: FIRST_DAY.saturating_add(settling.at.day).saturating_sub(1),
+            hour: settling.at.hour,
+        },
+        terms: settling.terms,
+    })
 }
 
 impl Ledger {
     // A month in which every hour is open and empty.
-    pub fn new() -> Ledger {
+    pub fn new(classes: [u8; 30]) -> Ledger {
         let blank = HourNote {
-            state: 0,
-            told: false,
-            purchases: [0; 3],
+            state: HourState::Open,
+            purchases: None,
             entries: [None; 3],
         };
         Ledger {
+            classes,
             hours: [blank; 720],
         }
     }
 
-    // An hour, if it is in the month.
-    fn at(&self, day: u32, hour: u32) -> Option<HourNote> {
-        self.hours.get(number_of(day, hour)).copied()
+    // An hour of the month.
+    fn note(&self, at: MonthHour) -> Result<&HourNote, Refusal> {
+        let place = place_of(at).ok_or(Refusal::NoSuchHour)?;
+        self.hours.get(place).ok_or(Refusal::NoSuchHour)
     }
 
-    // Replaces an hour.
-    fn put(&mut self, day: u32, hour: u32, note: HourNote) {
-        let place = number_of(day, hour);
-        if place < 720 {
-            self.hours[place] = note;
+    // An hour of the month, to be changed.
+    fn note_mut(&mut self, at: MonthHour) -> Result<&mut HourNote, Refusal> {
+        let place = place_of(at).ok_or(Refusal::NoSuchHour)?;
+        self.hours.get_mut(place).ok_or(Refusal::NoSuchHour)
+    }
+
+    // Where the line of a resource's hour stands, if it may be changed.
+    fn entry_mut(&mut self, resource: u32, at: MonthHour) -> Result<&mut Option<Entry>, Refusal> {
+        let note = self.note_mut(at)?;
+        let state = note.state;
+        let entry = note
+            .entries
+            .get_mut(resource as usize)
+            .ok_or(Refusal::NoSuchResource)?;
+        if state == HourState::Allotted {
+            return Err(Refusal::HourAllotted);
         }
+        Ok(entry)
     }
 
     // What telling should answer; the energies are noted if nothing is refused.
-    pub fn hear(&mut self, day: u32, hour: u32, total: u32, others: &[u32]) -> u32 {
-        let Some(mut note) = self.at(day, hour) else {
-            return 10;
-        };
-        if note.state == 1 {
-            return 11;
+    pub fn tell(&mut self, at: MonthHour, total: u32, others: &[u32]) -> Result<(), Refusal> {
+        let note = self.note_mut(at)?;
+        if note.state == HourState::Allotted {
+            return Err(Refusal::HourAllotted);
         }
         if total == 0 || total > 150_000_000 {
-            return 12;
+            return Err(Refusal::BadTotal);
         }
         let [first, second] = others else {
-            return 13;
+            return Err(Refusal::PurchaseCount);
         };
-        let rest = i64::from(total)
-            .saturating_sub(i64::from(*first))
-            .saturating_sub(i64::from(*second));
+        let rest = i64::from(total) - i64::from(*first) - i64::from(*second);
         if rest < 0 {
-            return 14;
+            return Err(Refusal::PurchasesExceedTotal);
         }
-        note.told = true;
-        note.purchases = [rest, i64::from(*first), i64::from(*second)];
-        self.put(day, hour, note);
-        0
+        note.purchases = Some([rest, i64::from(*first), i64::from(*second)]);
+        Ok(())
     }
 
-    // Why the line of a resource's hour may not be changed, 0 if it may.
-    pub fn unchangeable(&self, resource: u32, day: u32, hour: u32) -> u32 {
-        let Some(note) = self.at(day, hour) else {
-            return 10;
-        };
-        if resource >= 3 {
-            return 20;
+    // The class of a day of the month.
+    fn class_on(&self, day: u32) -> DayClass {
+        match self.classes.get(day.saturating_sub(1) as usize) {
+            Some(0) => DayClass::Workday,
+            _ => DayClass::Holiday,
         }
-        if note.state == 1 { 11 } else { 0 }
     }
 
-    // Replaces the line of a resource's hour.
-    pub fn enter(&mut self, resource: u32, day: u32, hour: u32, entry: Option<Entry>) {
-        if let Some(mut note) = self.at(day, hour) {
-            if resource < 3 {
-                note.entries[resource as usize] = entry;
-                self.put(day, hour, note);
-            }
-        }
+    // What settling should answer; the line is noted if nothing is refused.
+    pub fn settle(
+        &mut self,
+        meters: &Meters,
+        settling: &Settling<Choice, Choice>,
+    ) -> Result<(), Refusal> {
+        let class = self.class_on(settling.at.day);
+        let entry = self.entry_mut(settling.resource, settling.at)?;
+        let hour = resource_hour(settling, class)?;
+        *entry = Some(meters.line(hour, settling)?);
+        Ok(())
     }
 
     // What the reading of a line should answer.
-    pub fn line(&self, resource: u32, day: u32, hour: u32) -> Result<Entry, u32> {
-        let Some(note) = self.at(day, hour) else {
-            return Err(10);
-        };
-        if resource >= 3 {
-            return Err(20);
-        }
-        match note.entries[resource as usize] {
-            Some(entry) => Ok(entry),
-            None => Err(28),
-        }
+    pub fn line(&self, resource: u32, at: MonthHour) -> Result<Entry, Refusal> {
+        let note = self.note(at)?;
+        let entry = note
+            .entries
+            .get(resource as usize)
+            .ok_or(Refusal::NoSuchResource)?;
+        entry.ok_or(Refusal::NoLine)
     }
 
     // What withdrawing should answer; the line goes if nothing is refused.
-    pub fn withdraw(&mut self, resource: u32, day: u32, hour: u32) -> u32 {
-        let code = self.unchangeable(resource, day, hour);
-        if code != 0 {
-            return code;
-        }
-        match self.line(resource, day, hour) {
-            Ok(_) => {
-                self.enter(resource, day, hour, None);
-                0
-            }
-            Err(code) => code,
-        }
-    }
-
-    // Sets the state of an hour.
-    fn set_state(&mut self, day: u32, hour: u32, state: u8) {
-        if let Some(mut note) = self.at(day, hour) {
-            note.state = state;
-            self.put(day, hour, note);
+    pub fn withdraw(&mut self, resource: u32, at: MonthHour) -> Result<(), Refusal> {
+        let entry = self.entry_mut(resource, at)?;
+        match entry.take() {
+            Some(_) => Ok(()),
+            None => Err(Refusal::NoLine),
         }
     }
 
     // What allotting should answer; the hour is allotted if nothing is refused.
-    pub fn allot(&mut self, day: u32, hour: u32) -> u32 {
-        let Some(note) = self.at(day, hour) else {
-            return 10;
-        };
+    pub fn allot(&mut self, at: MonthHour) -> Result<(), Refusal> {
+        let note = self.note_mut(at)?;
         match note.state {
-            1 => 11,
-            2 => 15,
-            _ => {
-                if !note.told {
-                    return 16;
-                }
-                self.set_state(day, hour, 1);
-                0
+            HourState::Allotted => Err(Refusal::HourAllotted),
+            HourState::InCorrection => Err(Refusal::HourInCorrection),
+            HourState::Open if note.purchases.is_none() => Err(Refusal::NoEnergies),
+            HourState::Open => {
+                note.state = HourState::Allotted;
+                Ok(())
             }
         }
     }
 
     // What reopening should answer; the hour is in correction if nothing is refused.
-    pub fn reopen(&mut self, day: u32, hour: u32) -> u32 {
-        let Some(note) = self.at(day, hour) else {
-            return 10;
-        };
-        if note.state != 1 {
-            return 17;
+    pub fn reopen(&mut self, at: MonthHour) -> Result<(), Refusal> {
+        let note = self.note_mut(at)?;
+        if note.state != HourState::Allotted {
+            return Err(Refusal::HourNotAllotted);
         }
-        self.set_state(day, hour, 2);
-        0
+        note.state = HourState::InCorrection;
+        Ok(())
     }
 
-    // The correction of an hour is finished.
-    pub fn finish(&mut self, day: u32, hour: u32) {
-        self.set_state(day, hour, 1);
+    // What finishing the correction of an hour should answer; the hour is allotted again.
+    pub fn finish(&mut self, at: MonthHour) -> Result<(), Refusal> {
+        self.note_mut(at)?.state = HourState::Allotted;
+        Ok(())
     }
 
-    // What the reading of a charge should answer: charge and refund.
-    pub fn charge(&self, buyer: u32, day: u32, hour: u32) -> Result<(i64, i64), u32> {
-        let Some(note) = self.at(day, hour) else {
-            return Err(10);
-        };
+    // What the reading of a charge should answer.
+    pub fn charge(&self, buyer: u32, at: MonthHour) -> Result<BuyerLine, Refusal> {
+        let note = self.note(at)?;
         if buyer >= 3 {
-            return Err(29);
+            return Err(Refusal::NoSuchBuyer);
         }
-        if note.state != 1 {
-            return Err(17);
+        if note.state != HourState::Allotted {
+            return Err(Refusal::HourNotAllotted);
         }
-        Ok((
-            share(note.paid(), note.purchases, buyer as usize),
-            share(note.fined(), note.purchases, buyer as usize),
-        ))
+        let sums = note.charge_sums(buyer as usize);
+        Ok(BuyerLine {
+            charge: sums.due,
+            refund: sums.back,
+        })
     }
 
     // How many hours are in a state.
-    pub fn hours_in(&self, state: u8) -> u32 {
-        let mut count: u32 = 0;
-        for h in 0..720 {
-            if self.hours[h].state == state {
-                count = count.saturating_add(1);
-            }
-        }
-        count
+    pub fn hours_in(&self, state: HourState) -> usize {
+        self.hours.iter().filter(|note| note.state == state).count()
     }
 
-    // The sums over the allotted hours.
-    pub fn totals(&self) -> Totals {
-        let mut sums = Totals {
-            paid: 0,
-            fined: 0,
-            charged: 0,
-            refunded: 0,
-        };
-        for h in 0..720 {
-            let note = self.hours[h];
-            if note.state == 1 {
-                sums.paid = sums.paid.saturating_add(note.paid());
-                sums.fined = sums.fined.saturating_add(note.fined());
-                for k in 0..3 {
-                    sums.charged = sums
-                        .charged
-                        .saturating_add(share(note.paid(), note.purchases, k));
-                    sums.refunded = sums
-                        .refunded
-                        .saturating_add(share(note.fined(), note.purchases, k));
-                }
+    // What is added up over the allotted hours.
+    fn sum_over<F: Fn(&HourNote) -> Sums>(&self, sums_of: F) -> Sums
+        requires { F.IsAlwaysCallable sums_of }
+    {
+        let mut sums = NOTHING;
+        for note in &self.hours {
+            if note.state == HourState::Allotted {
+                sums = sums.plus(sums_of(note));
             }
         }
         sums
     }
 
     // What a resource is paid and fined over the allotted hours.
-    pub fn resource_sums(&self, resource: usize) -> (i64, i64) {
-        let mut paid: i64 = 0;
-        let mut fined: i64 = 0;
-        for h in 0..720 {
-            let note = self.hours[h];
-            if note.state == 1 && resource < 3 {
-                if let Some(entry) = note.entries[resource] {
-                    paid = paid.saturating_add(entry.paid);
-                    fined = fined.saturating_add(entry.fined);
-                }
-            }
-        }
-        (paid, fined)
+    pub fn resource_sums(&self, resource: usize) -> Sums {
+        self.sum_over(|note| note.line_sums(resource))
     }
 
     // What a buyer is charged and refunded over the allotted hours.
-    pub fn buyer_sums(&self, buyer: usize) -> (i64, i64) {
-        let mut charged: i64 = 0;
-        let mut refunded: i64 = 0;
-        for h in 0..720 {
-            let note = self.hours[h];
-            if note.state == 1 {
-                charged = charged.saturating_add(share(note.paid(), note.purchases, buyer));
-                refunded = refunded.saturating_add(share(note.fined(), note.purchases, buyer));
-            }
+    pub fn buyer_sums(&self, buyer: usize) -> Sums {
+        self.sum_over(|note| note.charge_sums(buyer))
+    }
+
+    // The sums over the allotted hours.
+    pub fn totals(&self) -> Reconciliation {
+        let lines = self.sum_over(|note| note.sums());
+        let charges = (0..3)
+            .map(|buyer| self.buyer_sums(buyer))
+            .fold(NOTHING, |sums, buyer| sums.plus(buyer));
+        Reconciliation {
+            payments: i128::from(lines.due),
+            fines: i128::from(lines.back),
+            charges: i128::from(charges.due),
+            refunds: i128::from(charges.back),
         }
-        (charged, refunded)
     }
 }

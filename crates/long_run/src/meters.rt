@@ -1,5 +1,6 @@
 // What the sources are made of: loads, readings, filed baselines and the tables of days.
 use crate::random::Random;
+use std::array;
 
 // Four customers, 96 days and 24 hours; a byte for the class, the left-out mark and the first start of each day.
 #[derive(Drop)]
@@ -41,71 +42,49 @@ fn reading(random: &mut Random, before: u32) -> u32 {
     }
 }
 
-// Loads for each hour.
-fn loads(random: &mut Random) -> [u32; 9216] {
-    let mut loads = [0; 9216];
-    for i in 0..9216 {
-        loads[i] = load(random);
-    }
-    loads
-}
-
 // Readings, customer by customer.
 fn readings(random: &mut Random) -> [u32; 9220] {
     let mut readings = [0; 9220];
-    for c in 0..4 {
+    for customer in readings.chunks_mut(2305) {
         let mut count = 990_000_000;
-        for p in 0..2305 {
-            readings[c * 2305 + p] = count;
+        for place in customer {
+            *place = count;
             count = reading(random, count);
         }
     }
     readings
 }
 
-// Filed baselines for each hour.
-fn filed(random: &mut Random) -> [i32; 9216] {
-    let mut filed = [0; 9216];
-    for i in 0..9216 {
-        filed[i] = baseline(random);
+// A byte for a day: `first` once in so many, `second` as often, else 0.
+fn byte(random: &mut Random, first: u8, second: u8) -> u8 {
+    if random.one_in(4) {
+        first
+    } else if random.one_in(12) {
+        second
+    } else {
+        0
     }
-    filed
 }
 
-// Bytes for the days: `first` once in so many, `second` as often, else `other`.
-fn bytes(random: &mut Random, first: u8, second: u8, other: u8) -> [u8; 96] {
-    let mut bytes = [other; 96];
-    for d in 0..96 {
-        if random.one_in(4) {
-            bytes[d] = first;
-        } else if random.one_in(12) {
-            bytes[d] = second;
-        }
+// The start hour of a day's first order, 0 on half of the days.
+fn start(random: &mut Random) -> u8 {
+    if random.one_in(2) {
+        random.below(27) as u8
+    } else {
+        0
     }
-    bytes
-}
-
-// Start hours of the days' first orders, 0 on half of them.
-fn starts(random: &mut Random) -> [u8; 96] {
-    let mut starts = [0; 96];
-    for d in 0..96 {
-        if random.one_in(2) {
-            starts[d] = random.below(27) as u8;
-        }
-    }
-    starts
 }
 
 impl Meters {
     // All of it at random.
     pub fn new(random: &mut Random) -> Meters {
         Meters {
-            loads: loads(random),
+            loads: array::from_fn(|_| load(random)),
             readings: readings(random),
-            filed: filed(random),
-            classes: bytes(random, 1, 2, 0),
-            left: bytes(random, 1, 7, 0),
-            starts: starts(random),
+            filed: array::from_fn(|_| baseline(random)),
+            classes: array::from_fn(|_| byte(random, 1, 2)),
+            left: array::from_fn(|_| byte(random, 1, 7)),
+            starts: array::from_fn(|_| start(random)),
         }
     }
 }

@@ -1,29 +1,18 @@
 // Openings at random, sound and unsound.
-use crate::calls::answer_of;
-use crate::counts::{Counts, OPEN};
+ghost use Rattle.std.specs.Prelude.{◌≤◌};
+
+use crate::counts::{Call, Counts};
 use crate::desk::Desk;
 use crate::random::Random;
-use book::book::Book;
 use book::open::Opening;
 use book::register::Registration;
-use table::lines::{BuyerLine, ResourceLine};
-
-impl Desk {
-    // A desk with a book not yet opened.
-    pub fn new() -> Desk {
-        Desk {
-            book: Book::new(),
-            lines: [None; 2170],
-            charges: [BuyerLine {
-                charge: 0,
-                refund: 0,
-            }; 2165],
-        }
-    }
-}
+use refusal::Refusal;
+use std::array;
 
 // The days of a month, February's the longer.
-fn days_of(month: u32) -> usize {
+fn days_of(month: u32) -> usize
+    ensures bounded { result ≤ 31 }
+{
     match month {
         2 => 29,
         4 | 6 | 9 | 11 => 30,
@@ -31,20 +20,18 @@ fn days_of(month: u32) -> usize {
     }
 }
 
+// A resource in range.
+fn registration(random: &mut Random) -> Registration {
+    Registration {
+        kind: 1 + random.below(4),
+        aggregator: 1 + random.below(99),
+        customers: 1 + random.below(16),
+    }
+}
+
 // Resources at random, now and then one out of range.
 fn registrations(random: &mut Random) -> [Registration; 17] {
-    let mut resources = [Registration {
-        kind: 1,
-        aggregator: 1,
-        customers: 1,
-    }; 17];
-    for i in 0..17 {
-        resources[i] = Registration {
-            kind: 1 + random.below(4),
-            aggregator: 1 + random.below(99),
-            customers: 1 + random.below(16),
-        };
-    }
+    let mut resources: [Registration; 17] = array::from_fn(|_| registration(random));
     match random.below(30) {
         0 => resources[0].kind = 0,
         1 => resources[0].kind = 5,
@@ -59,88 +46,83 @@ fn registrations(random: &mut Random) -> [Registration; 17] {
 
 // Day classes at random, now and then a byte that is none.
 fn classes(random: &mut Random) -> [u8; 33] {
-    let mut classes = [0; 33];
-    for d in 0..33 {
-        classes[d] = random.below(2) as u8;
-    }
+    let mut classes: [u8; 33] = array::from_fn(|_| random.below(2) as u8);
     if random.one_in(12) {
         classes[random.below(33) as usize] = 2;
     }
     classes
 }
 
-// Whether each resource is in range.
-fn are_sound(resources: &[Registration]) -> bool {
-    for r in resources {
-        if r.kind == 0
-            || r.kind > 4
-            || r.aggregator == 0
-            || r.aggregator > 99
-            || r.customers == 0
-            || r.customers > 16
-        {
-            return false;
-        }
+// How many days an opening of a month has.
+fn days(random: &mut Random, month: u32) -> usize
+    ensures bounded { result ≤ 32 }
+{
+    if random.one_in(8) {
+        return 27 + random.below(6) as usize;
     }
-    true
+    days_of(month)
 }
 
-// Whether each class is that of a workday or a holiday.
-fn are_plain(classes: &[u8]) -> bool {
-    for class in classes {
-        if *class != 0 && *class != 1 {
-            return false;
-        }
+// How many resources an opening has.
+fn enrolled(random: &mut Random) -> usize
+    ensures bounded { result ≤ 17 }
+{
+    let count = 1 + random.below(3) as usize;
+    if random.one_in(10) {
+        return random.below(18) as usize;
     }
-    true
+    count
 }
 
-// The number for which an opening of a new book over lists of 2,170 and 2,165 is refused, 0 for none.
-fn refused(opening: Opening) -> u32 {
+// Whether a resource is in range.
+fn is_sound(resource: &Registration) -> bool {
+    1 <= resource.kind
+        && resource.kind <= 4
+        && 1 <= resource.aggregator
+        && resource.aggregator <= 99
+        && 1 <= resource.customers
+        && resource.customers <= 16
+}
+
+// Why an opening of a new book over lists of 2,170 and 2,165 is refused, if it is.
+fn may_open(opening: Opening) -> Result<(), Refusal> {
     if opening.month == 0 || opening.month > 12 {
-        return 1;
+        return Err(Refusal::BadMonth);
     }
     let days = opening.classes.len();
     let fits = days == days_of(opening.month) || (opening.month == 2 && days == 28);
-    if !fits || !are_plain(opening.classes) {
-        return 2;
+    if !fits || opening.classes.iter().any(|class| *class > 1) {
+        return Err(Refusal::BadClasses);
     }
     if opening.first_day > 64 {
-        return 3;
+        return Err(Refusal::BadFirstDay);
     }
     let count = opening.resources.len();
     if count == 0 || count > 16 {
-        return 4;
+        return Err(Refusal::ResourceCount);
     }
-    if !are_sound(opening.resources) {
-        return 5;
+    if !opening.resources.iter().all(is_sound) {
+        return Err(Refusal::BadResource);
     }
     if opening.buyers == 0 || opening.buyers > 8 {
-        return 6;
+        return Err(Refusal::BuyerCount);
     }
     let hours = days.saturating_mul(24);
     let buyers = opening.buyers as usize;
     if hours.saturating_mul(count) > 2170 || hours.saturating_mul(buyers) > 2165 {
-        return 7;
+        return Err(Refusal::ShortLists);
     }
-    0
+    Ok(())
 }
 
 // Opens a new book, and then again.
 pub fn try_open(counts: &mut Counts, random: &mut Random) {
-    let mut desk = Desk::new();
     let mut month = 1 + random.below(12);
     if random.one_in(12) {
         month = random.below(15);
     }
-    let mut days = days_of(month);
-    if random.one_in(8) {
-        days = 27 + random.below(6) as usize;
-    }
-    let mut count = 1 + random.below(3) as usize;
-    if random.one_in(10) {
-        count = random.below(18) as usize;
-    }
+    let days = days(random, month);
+    let count = enrolled(random);
     let mut buyers = 1 + random.below(3);
     if random.one_in(10) {
         buyers = random.below(10);
@@ -154,14 +136,14 @@ pub fn try_open(counts: &mut Counts, random: &mut Random) {
     let opening = Opening {
         number: 9,
         month,
-        classes: &classes[0..days.min(33)],
+        classes: &classes[..days],
         first_day,
         buyers,
-        resources: &resources[0..count.min(17)],
+        resources: &resources[..count],
     };
-    let expected = refused(opening);
-    let got = answer_of(desk.book.open(opening, &mut desk.lines, &mut desk.charges));
-    counts.note(OPEN, expected, got);
-    let again = answer_of(desk.book.open(opening, &mut desk.lines, &mut desk.charges));
-    counts.note(OPEN, if expected == 0 { 9 } else { expected }, again);
+    let mut desk = Desk::new();
+    let expected = may_open(opening);
+    counts.note(Call::Open, expected, desk.open(opening));
+    let again = expected.and(Err(Refusal::AlreadyOpened));
+    counts.note(Call::Open, again, desk.open(opening));
 }

@@ -1,40 +1,130 @@
 // The plain reckoning of a source and of a line, apart from the library.
 use crate::meters::Meters;
-use settlement::terms::Terms;
+use arrayvec::ArrayVec;
+use book::read::LineReading;
+use book::settle::Settling;
+use load::loads::DayClass;
+use load::places::CustomerHour;
+use refusal::{Cause, NoFigure, Refusal};
+use settlement::terms::{Kind, ResourceHour, Slot, Terms};
 
-// A source as the plain reckoning sees it.
+// The sorts of sources.
+#[derive(Clone, Copy, PartialEq, Eq, Debug)]
+pub enum Sort {
+    Intervals,
+    LeftOutIntervals,
+    Registers,
+    AdjustedRegisters,
+    Filed,
+    AdjustedIntervals,
+    AdjustedFiled,
+}
+
+// The sorts as they are drawn.
+pub const SORTS: [Sort; 7] = [
+    Sort::Intervals,
+    Sort::LeftOutIntervals,
+    Sort::Registers,
+    Sort::AdjustedRegisters,
+    Sort::Filed,
+    Sort::AdjustedIntervals,
+    Sort::AdjustedFiled,
+];
+
+// A method: its text, the class of its days, how many, how many are struck at either end, and its reach.
+#[derive(Clone, Copy)]
+pub struct Way {
+    pub text: &'static str,
+    class: DayClass,
+    n: usize,
+    high: usize,
+    low: usize,
+    reach: usize,
+}
+
+// The methods as they are drawn.
+pub const WAYS: [Way; 7] = [
+    Way {
+        text: "max45",
+        class: DayClass::Workday,
+        n: 5,
+        high: 0,
+        low: 1,
+        reach: 10,
+    },
+    Way {
+        text: "mid610",
+        class: DayClass::Workday,
+        n: 10,
+        high: 2,
+        low: 2,
+        reach: 20,
+    },
+    Way {
+        text: "mid46",
+        class: DayClass::Workday,
+        n: 6,
+        high: 1,
+        low: 1,
+        reach: 12,
+    },
+    Way {
+        text: "mid810",
+        class: DayClass::Workday,
+        n: 10,
+        high: 1,
+        low: 1,
+        reach: 20,
+    },
+    Way {
+        text: "hmax45",
+        class: DayClass::Holiday,
+        n: 5,
+        high: 0,
+        low: 1,
+        reach: 10,
+    },
+    Way {
+        text: "hmid610",
+        class: DayClass::Holiday,
+        n: 10,
+        high: 2,
+        low: 2,
+        reach: 20,
+    },
+    Way {
+        text: "hmid46",
+        class: DayClass::Holiday,
+        n: 6,
+        high: 1,
+        low: 1,
+        reach: 12,
+    },
+];
+
+// What a source is made of, and its method.
 #[derive(Clone, Copy)]
 pub struct Choice {
-    pub filed: bool,
-    pub register: bool,
-    pub left_out: bool,
-    pub adjusted: bool,
+    pub sort: Sort,
     pub way: Way,
 }
 
-// A method: the class byte of its days, how many, how many struck at either end, and its reach.
+// A source as the plain reckoning sees it.
 #[derive(Clone, Copy)]
-pub struct Way {
-    pub class: u8,
-    pub n: usize,
-    pub high: usize,
-    pub low: usize,
-    pub reach: u32,
+struct PlainSource<'a> {
+    meters: &'a Meters,
+    choice: Choice,
 }
 
-// A resource as the plain reckoning sees it, on a day.
-#[derive(Clone, Copy)]
-pub struct Place {
-    pub kind: u32,
-    pub customers: u32,
-    pub month: u32,
-    pub class: u8,
-    pub day: u32,
-    pub hour: u32,
+// A reference day by its load, and of equal loads by its number.
+#[derive(Clone, Copy, PartialEq, Eq, PartialOrd, Ord, Debug, Default)]
+struct Reference {
+    load: i64,
+    day: u32,
 }
 
 // A line by the plain reckoning.
-#[derive(Clone, Copy, PartialEq, Eq)]
+#[derive(Clone, Copy, PartialEq, Eq, Debug)]
 pub struct Entry {
     pub plan: i64,
     pub order: i64,
@@ -46,18 +136,62 @@ pub struct Entry {
     pub fined: i64,
 }
 
-// The lowest of the days not yet taken: by load, then the older.
-fn lowest(days: &[(i64, u32); 10], taken: &[bool; 10], n: usize) -> Option<usize> {
-    let mut found = None;
-    let mut least = (i64::MAX, u32::MAX);
-    for i in 0..10 {
-        let (load, day) = days[i];
-        if i < n && !taken[i] && (load < least.0 || (load == least.0 && day < least.1)) {
-            found = Some(i);
-            least = (load, day);
+impl From<LineReading> for Entry {
+    fn from(line: LineReading) -> Entry {
+        Entry {
+            plan: i64::from(line.plan),
+            order: i64::from(line.order),
+            sr: line.sr,
+            dr: line.dr,
+            dlr: i64::try_from(line.dlr).unwrap_or(-1),
+            slr: i64::try_from(line.slr).unwrap_or(-1),
+            paid: line.paid,
+            fined: i64::from(line.fined),
         }
     }
-    found
+}
+
+impl Sort {
+    // Whether the loads come from readings.
+    fn is_counted(self) -> bool {
+        matches!(self, Sort::Registers | Sort::AdjustedRegisters)
+    }
+
+    // Whether marked days are left out.
+    fn leaves_out(self) -> bool {
+        matches!(self, Sort::LeftOutIntervals | Sort::AdjustedRegisters)
+    }
+
+    // Whether the baselines are filed.
+    fn is_filed(self) -> bool {
+        matches!(self, Sort::Filed | Sort::AdjustedFiled)
+    }
+
+    // Whether the baselines are adjusted.
+    fn is_adjusted(self) -> bool {
+        matches!(
+            self,
+            Sort::AdjustedRegisters | Sort::AdjustedIntervals | Sort::AdjustedFiled
+        )
+    }
+}
+
+// The place of an hour in a list that goes customer by customer, day by day and hour by hour.
+fn place_of(asked: CustomerHour) -> Option<usize> {
+    let CustomerHour {
+        customer,
+        day,
+        hour,
+    } = asked;
+    ((customer as usize * 96 + day as usize) * 24 + hour as usize).checked_sub(1)
+}
+
+// A load that is not too great.
+fn load_of(load: u32) -> Option<i64> {
+    if load > 20_000_000 {
+        return None;
+    }
+    Some(i64::from(load))
 }
 
 // A sum over a count, a half or more rounded up.
@@ -91,268 +225,251 @@ fn money(energy: i64, price: u32) -> i64 {
 
 impl Meters {
     // A load in the record of intervals.
-    fn interval(&self, c: u32, d: u32, h: u32) -> Option<i64> {
-        let place = (c as usize * 96 + d as usize) * 24 + h as usize;
-        if place == 0 {
-            return None;
-        }
-        match self.loads.get(place - 1) {
-            Some(load) if *load <= 20_000_000 => Some(i64::from(*load)),
-            _ => None,
-        }
+    fn interval(&self, asked: CustomerHour) -> Option<i64> {
+        let load = self.loads.get(place_of(asked)?)?;
+        load_of(*load)
     }
 
     // A load in the record of readings.
-    fn counted(&self, c: u32, d: u32, h: u32) -> Option<i64> {
-        let place = c as usize * 2305 + d as usize * 24 + h as usize;
-        if place == 0 {
-            return None;
-        }
-        let before = self.readings.get(place - 1).copied().unwrap_or(u32::MAX);
-        let after = self.readings.get(place).copied().unwrap_or(u32::MAX);
+    fn counted(&self, asked: CustomerHour) -> Option<i64> {
+        let CustomerHour {
+            customer,
+            day,
+            hour,
+        } = asked;
+        let place = customer as usize * 2305 + day as usize * 24 + hour as usize;
+        let before = *self.readings.get(place.checked_sub(1)?)?;
+        let after = *self.readings.get(place)?;
         if before >= 1_000_000_000 || after >= 1_000_000_000 {
             return None;
         }
-        let load = if after >= before {
-            after - before
+        if after >= before {
+            load_of(after - before)
         } else {
-            1_000_000_000 - before + after
-        };
-        if load <= 20_000_000 {
-            Some(i64::from(load))
-        } else {
-            None
+            load_of(1_000_000_000 - before + after)
         }
     }
 
-    // A metered load.
-    fn metered(&self, choice: Choice, c: u32, d: u32, h: u32) -> Option<i64> {
-        if choice.register && !choice.filed {
-            self.counted(c, d, h)
-        } else {
-            self.interval(c, d, h)
-        }
-    }
-
-    // A day's load, if it may be a reference day.
-    fn reference(&self, choice: Choice, c: u32, d: u32, h: u32) -> Option<i64> {
-        let mark = self.left.get(d as usize).copied().unwrap_or(0);
-        if choice.left_out && mark == 1 {
-            return None;
-        }
-        self.metered(choice, c, d, h)
-    }
-
-    // The reference days with their loads, and how many there are.
-    fn days_for(&self, choice: Choice, c: u32, d: u32, h: u32) -> ([(i64, u32); 10], usize) {
-        let mut days = [(0, 0); 10];
-        let mut n = 0;
-        let mut looked = 0;
-        for back in 0..96 {
-            if back < d && looked < choice.way.reach && n < choice.way.n && n < 10 {
-                let day = d - 1 - back;
-                let class = self.classes.get(day as usize).copied().unwrap_or(9);
-                if class == choice.way.class {
-                    looked += 1;
-                    if let Some(load) = self.reference(choice, c, day, h) {
-                        days[n] = (load, day);
-                        n += 1;
-                    }
-                }
-            }
-        }
-        (days, n)
-    }
-
-    // The mean in hour g over the days that are left.
-    fn mean_of(&self, choice: Choice, c: u32, days: [(i64, u32); 10], g: u32) -> Option<i64> {
-        let n = choice.way.n;
-        let mut taken = [false; 10];
-        let mut sum: i64 = 0;
-        let mut count: i64 = 0;
-        for k in 0..10 {
-            if k < n {
-                if let Some(i) = lowest(&days, &taken, n) {
-                    if i < 10 {
-                        taken[i] = true;
-                        if choice.way.low <= k && k < n.saturating_sub(choice.way.high) {
-                            let Some(load) = self.metered(choice, c, days[i].1, g) else {
-                                return None;
-                            };
-                            sum = sum.saturating_add(load);
-                            count = count.saturating_add(1);
-                        }
-                    }
-                }
-            }
-        }
-        Some(mean(sum, count))
-    }
-
-    // The profile, or its cause.
-    fn profile(&self, choice: Choice, c: u32, d: u32, h: u32, g: u32) -> Result<i64, u32> {
-        if choice.filed {
-            return Err(2);
-        }
-        if h > 24 {
-            return Err(3);
-        }
-        let (days, n) = self.days_for(choice, c, d, h);
-        if n < choice.way.n {
-            return Err(1);
-        }
-        match self.mean_of(choice, c, days, g) {
-            Some(mean) => Ok(mean),
-            None => Err(2),
+    // The class of a day.
+    fn class_on(&self, day: u32) -> DayClass {
+        match self.classes.get(day as usize) {
+            Some(0) => DayClass::Workday,
+            Some(1) => DayClass::Holiday,
+            _ => DayClass::Neither,
         }
     }
 
     // A filed baseline, or its cause.
-    fn filed_at(&self, c: u32, d: u32, h: u32) -> Result<i64, u32> {
-        let place = (c as usize * 96 + d as usize) * 24 + h as usize;
-        if place == 0 {
-            return Err(3);
-        }
-        match self.filed.get(place - 1) {
+    fn filed_at(&self, asked: CustomerHour) -> Result<i64, Cause> {
+        let place = place_of(asked).ok_or(Cause::OutOfRange)?;
+        match self.filed.get(place) {
             Some(filed) if -40_000_000 <= *filed && *filed <= 40_000_000 => Ok(i64::from(*filed)),
-            _ => Err(2),
+            _ => Err(Cause::MissingLoad),
+        }
+    }
+}
+
+impl PlainSource<'_> {
+    // A metered load.
+    fn metered(&self, asked: CustomerHour) -> Option<i64> {
+        if self.choice.sort.is_counted() {
+            self.meters.counted(asked)
+        } else {
+            self.meters.interval(asked)
         }
     }
 
-    // What is metered less the profile in an hour before a start.
-    fn gap_at(&self, choice: Choice, c: u32, d: u32, s: u32, g: u32) -> Option<i64> {
-        match (
-            self.metered(choice, c, d, g),
-            self.profile(choice, c, d, s, g),
-        ) {
-            (Some(load), Ok(profile)) => Some(load.saturating_sub(profile)),
-            _ => None,
+    // A day with its load, if it may be a reference day.
+    fn reference(&self, asked: CustomerHour, day: u32) -> Option<Reference> {
+        if self.choice.sort.leaves_out() && self.meters.left.get(day as usize) == Some(&1) {
+            return None;
         }
+        let load = self.metered(CustomerHour { day, ..asked })?;
+        Some(Reference { load, day })
+    }
+
+    // The reference days, the lowest first.
+    fn days_for(&self, asked: CustomerHour) -> Result<ArrayVec<Reference, 10>, Cause> {
+        let way = self.choice.way;
+        let mut days = ArrayVec::new();
+        let nearest = (0..asked.day)
+            .rev()
+            .filter(|day| self.meters.class_on(*day) == way.class)
+            .take(way.reach);
+        for day in nearest {
+            if days.len() < way.n {
+                if let Some(reference) = self.reference(asked, day) {
+                    let _ = days.try_push(reference);
+                }
+            }
+        }
+        if days.len() < way.n {
+            return Err(Cause::TooFewDays);
+        }
+        days.sort_unstable();
+        Ok(days)
+    }
+
+    // The mean in an hour over the days that are left once the lowest and the highest are struck.
+    fn mean_of(&self, days: &[Reference], asked: CustomerHour) -> Result<i64, Cause> {
+        let way = self.choice.way;
+        let left = way.n.saturating_sub(way.high).saturating_sub(way.low);
+        let mut sum: i64 = 0;
+        let mut count: i64 = 0;
+        for reference in days.iter().skip(way.low).take(left) {
+            let day = reference.day;
+            let load = self
+                .metered(CustomerHour { day, ..asked })
+                .ok_or(Cause::MissingLoad)?;
+            sum = sum.saturating_add(load);
+            count = count.saturating_add(1);
+        }
+        Ok(mean(sum, count))
+    }
+
+    // The profile, or its cause.
+    fn profile(&self, asked: CustomerHour, at: u32) -> Result<i64, Cause> {
+        if self.choice.sort.is_filed() {
+            return Err(Cause::MissingLoad);
+        }
+        if asked.hour > 24 {
+            return Err(Cause::OutOfRange);
+        }
+        let days = self.days_for(asked)?;
+        self.mean_of(&days, CustomerHour { hour: at, ..asked })
+    }
+
+    // What is metered less the profile in the three hours before a start, if all of it is there.
+    fn gap_before(&self, start: CustomerHour) -> Option<i64> {
+        let mut gap: i64 = 0;
+        for back in [4, 3, 2] {
+            let at = start.hour.checked_sub(back)?;
+            let load = self.metered(CustomerHour { hour: at, ..start })?;
+            let profile = self.profile(start, at).ok()?;
+            gap = gap.saturating_add(load).saturating_sub(profile);
+        }
+        Some(gap)
     }
 
     // What a day's first order adds to the baselines of the day.
-    fn added(&self, choice: Choice, c: u32, d: u32) -> i64 {
-        let s = u32::from(self.starts.get(d as usize).copied().unwrap_or(0));
-        if !choice.adjusted || s < 5 {
+    fn added(&self, asked: CustomerHour) -> i64 {
+        let start = self.meters.starts.get(asked.day as usize);
+        let start = start.copied().unwrap_or(0);
+        if !self.choice.sort.is_adjusted() || start < 5 {
             return 0;
         }
-        match (
-            self.gap_at(choice, c, d, s, s - 4),
-            self.gap_at(choice, c, d, s, s - 3),
-            self.gap_at(choice, c, d, s, s - 2),
-        ) {
-            (Some(a), Some(b), Some(e)) => third(a.saturating_add(b).saturating_add(e)),
-            _ => 0,
-        }
+        let first = CustomerHour {
+            hour: u32::from(start),
+            ..asked
+        };
+        self.gap_before(first).map_or(0, third)
     }
 
     // The baseline, or its cause.
-    fn baseline(&self, choice: Choice, c: u32, d: u32, h: u32) -> Result<i64, u32> {
-        let below = if choice.filed {
-            self.filed_at(c, d, h)
+    fn baseline(&self, asked: CustomerHour) -> Result<i64, Cause> {
+        let below = if self.choice.sort.is_filed() {
+            self.meters.filed_at(asked)?
         } else {
-            self.profile(choice, c, d, h, h)
+            self.profile(asked, asked.hour)?
         };
-        match below {
-            Ok(below) => Ok(
-                below
-                    .saturating_add(self.added(choice, c, d))
-                    .max(-40_000_000)
-                    .min(40_000_000),
-            ),
-            Err(cause) => Err(cause),
-        }
+        let added = self.added(asked);
+        Ok(below.saturating_add(added).clamp(-40_000_000, 40_000_000))
     }
 
     // A customer's cut, or its cause.
-    fn cut(&self, choice: Choice, c: u32, d: u32, h: u32) -> Result<i64, u32> {
-        match (
-            self.baseline(choice, c, d, h),
-            self.metered(choice, c, d, h),
-        ) {
-            (Ok(baseline), Some(load)) => Ok(baseline.saturating_sub(load)),
-            (Ok(_), None) => Err(2),
-            (Err(cause), _) => Err(cause),
-        }
+    fn cut(&self, asked: CustomerHour) -> Result<i64, Cause> {
+        let baseline = self.baseline(asked)?;
+        let load = self.metered(asked).ok_or(Cause::MissingLoad)?;
+        Ok(baseline.saturating_sub(load))
     }
 
-    // The cuts of the customers whose mark is 1 added up, or the code of the first without one.
-    fn cuts(&self, choice: Choice, place: Place, marks: &[u8], number: u32) -> Result<i64, u32> {
+    // The cuts of the customers whose mark is 1 added up, or the first without one.
+    fn cuts(&self, hour: ResourceHour, marks: &[u8]) -> Result<i64, NoFigure> {
         let mut sum: i64 = 0;
-        for c in 0..place.customers {
-            if marks.get(c as usize).copied().unwrap_or(0) == 1 {
-                match self.cut(choice, c, place.day, place.hour) {
-                    Ok(cut) => sum = sum.saturating_add(cut),
-                    Err(cause) => {
-                        return Err(
-                            cause
-                                .saturating_mul(10_000)
-                                .saturating_add(c.saturating_mul(100))
-                                .saturating_add(number),
-                        );
-                    }
-                }
+        for (customer, mark) in (0..hour.portfolio.customers).zip(marks) {
+            if *mark == 1 {
+                let asked = CustomerHour {
+                    customer,
+                    day: hour.slot.day,
+                    hour: hour.slot.hour,
+                };
+                let cut = self
+                    .cut(asked)
+                    .map_err(|cause| NoFigure { customer, cause })?;
+                sum = sum.saturating_add(cut);
             }
         }
         Ok(sum)
     }
+}
 
-    // The line of a settling, or its code.
+impl Meters {
+    // A source as the plain reckoning sees it.
+    fn plain(&self, choice: Choice) -> PlainSource<'_> {
+        PlainSource {
+            meters: self,
+            choice,
+        }
+    }
+
+    // The line of a settling, or why there is none.
     pub fn line(
         &self,
-        scheduled: Choice,
-        mandatory: Choice,
-        marks: &[u8],
-        place: Place,
-        terms: Terms,
-    ) -> Result<Entry, u32> {
-        let refused = refused_terms(place, terms);
-        if refused != 0 {
-            return Err(refused);
-        }
+        hour: ResourceHour,
+        settling: &Settling<Choice, Choice>,
+    ) -> Result<Entry, Refusal> {
+        may_settle(hour)?;
         let mut sr = 0;
-        if terms.plan > 0 {
-            match self.cuts(scheduled, place, marks, 25) {
-                Ok(sum) => sr = sum,
-                Err(code) => return Err(code),
-            }
+        if hour.terms.plan > 0 {
+            let source = self.plain(*settling.scheduled);
+            sr = source
+                .cuts(hour, settling.marks)
+                .map_err(Refusal::Scheduled)?;
         }
         let mut dr = 0;
-        if terms.order > 0 {
-            match self.cuts(mandatory, place, &[1; 16], 26) {
-                Ok(sum) => dr = sum,
-                Err(code) => return Err(code),
-            }
+        if hour.terms.order > 0 {
+            let source = self.plain(*settling.mandatory);
+            dr = source.cuts(hour, &[1; 16]).map_err(Refusal::Mandatory)?;
         }
-        Ok(figures(terms, sr, dr))
+        Ok(figures(hour.terms, sr, dr))
     }
 }
 
 // Whether an order may stand in an hour.
-fn may_order(place: Place) -> bool {
-    if place.kind <= 2 {
-        let hours = [10, 11, 12, 14, 15, 16, 17, 18, 19, 20];
-        place.class == 0 && hours.contains(&place.hour)
-    } else {
-        let months = [3, 4, 5, 9, 10, 11];
-        let hours = [11, 12, 13, 14, 15, 16, 17];
-        place.class == 1 && months.contains(&place.month) && hours.contains(&place.hour)
+fn may_order(kind: Kind, slot: Slot) -> bool {
+    match kind {
+        Kind::Standard | Kind::SmallMedium => {
+            let hours = [10, 11, 12, 14, 15, 16, 17, 18, 19, 20];
+            slot.class == DayClass::Workday && hours.contains(&slot.hour)
+        }
+        Kind::StandardHoliday | Kind::SmallMediumHoliday => {
+            let months = [3, 4, 5, 9, 10, 11];
+            let hours = [11, 12, 13, 14, 15, 16, 17];
+            slot.class == DayClass::Holiday
+                && months.contains(&slot.month)
+                && hours.contains(&slot.hour)
+        }
     }
 }
 
-// The number for which terms are refused by themselves, 0 for none.
-fn refused_terms(place: Place, terms: Terms) -> u32 {
+// Why an hour may not be settled by its terms, if it may not.
+fn may_settle(hour: ResourceHour) -> Result<(), Refusal> {
+    let terms = hour.terms;
     if terms.plan == 0 && terms.order == 0 {
-        return 21;
+        return Err(Refusal::NeitherPlanNorOrder);
     }
     let prices = terms.smp.max(terms.mgp);
     if terms.plan > 640_000_000 || terms.order > 500_000_000 || prices > 200_000 {
-        return 22;
+        return Err(Refusal::AboveLimit);
     }
     if terms.order == 0 {
-        return if terms.emergency || terms.test { 23 } else { 0 };
+        if terms.emergency || terms.test {
+            return Err(Refusal::MarkWithoutOrder);
+        }
+    } else if !may_order(hour.portfolio.kind, hour.slot) {
+        return Err(Refusal::OutsideOrderHours);
     }
-    if may_order(place) { 0 } else { 24 }
+    Ok(())
 }
 
 // The figures of a line.

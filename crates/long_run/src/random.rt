@@ -14,7 +14,7 @@ impl Random {
             .state
             .wrapping_mul(6_364_136_223_846_793_005)
             .wrapping_add(1_442_695_040_888_963_407);
-        ((self.state >> 32) & 0xffff_ffff) as u32
+        (self.state >> 32) as u32
     }
 
     // A number below a limit.

@@ -1,10 +1,6 @@
-// The sources by number, and settling over two of them.
-ghost use Rattle.std.specs.Prelude.{◌≡◌};
-ghost use Rattle.long_run.specs.Keeping.{on_desk, Keeps};
-
-use crate::desk::Desk;
+// A source of any sort.
 use crate::meters::Meters;
-use crate::plain::{Choice, Way};
+use crate::plain::{Choice, Sort};
 use baseline::adjusted::Adjusted;
 use baseline::filed::FiledSource;
 use baseline::method::Method;
@@ -12,57 +8,52 @@ use baseline::ranked::Ranked;
 use baseline::source::BaselineSource;
 use load::interval::IntervalRecord;
 use load::left_out::LeftOut;
+use load::places::CustomerHour;
 use load::register::RegisterRecord;
-use settlement::terms::Terms;
+use refusal::{Cause, Refusal};
 
-// The texts of the methods; the last calls for none.
-pub const TEXTS: [&str; 8] = [
-    "max45", "mid610", "mid46", "mid810", "hmax45", "hmid610", "hmid46", "max46",
-];
-
-// What the methods are.
-const WAYS: [(u8, usize, usize, usize, u32); 7] = [
-    (0, 5, 0, 1, 10),
-    (0, 10, 2, 2, 20),
-    (0, 6, 1, 1, 12),
-    (0, 10, 1, 1, 20),
-    (1, 5, 0, 1, 10),
-    (1, 10, 2, 2, 20),
-    (1, 6, 1, 1, 12),
-];
-
-// A settling but for its sources.
-#[derive(Clone, Copy)]
-pub struct Settling {
-    pub resource: u32,
-    pub day: u32,
-    pub hour: u32,
-    pub terms: Terms,
-    pub marks: [u8; 4],
+// A source of each sort.
+#[derive(Drop)]
+pub enum Source<'a> {
+    Intervals(Ranked<IntervalRecord<'a>>),
+    LeftOutIntervals(Ranked<LeftOut<'a, IntervalRecord<'a>>>),
+    Registers(Ranked<RegisterRecord<'a>>),
+    AdjustedRegisters(Adjusted<'a, Ranked<LeftOut<'a, RegisterRecord<'a>>>>),
+    Filed(FiledSource<'a>),
+    AdjustedIntervals(Adjusted<'a, Ranked<IntervalRecord<'a>>>),
+    AdjustedFiled(Adjusted<'a, FiledSource<'a>>),
 }
 
-// A source by its number, 0 to 6, with its method.
-#[derive(Clone, Copy)]
-pub struct Sort {
-    pub number: u32,
-    pub method: Method,
+// What the source that a value holds answers.
+macro_rules! answer {
+    ($source:expr, $held:ident => $answer:expr) => {
+        match $source {
+            Source::Intervals($held) => $answer,
+            Source::LeftOutIntervals($held) => $answer,
+            Source::Registers($held) => $answer,
+            Source::AdjustedRegisters($held) => $answer,
+            Source::Filed($held) => $answer,
+            Source::AdjustedIntervals($held) => $answer,
+            Source::AdjustedFiled($held) => $answer,
+        }
+    };
 }
 
-// A source by its number, 0 to 6, and its method's, 0 to 6, as the plain reckoning sees it.
-pub fn choice_of(number: u32, method: usize) -> Choice {
-    let (class, n, high, low, reach) = WAYS.get(method).copied().unwrap_or((9, 0, 0, 0, 0));
-    Choice {
-        filed: number == 4 || number == 6,
-        register: number == 2 || number == 3,
-        left_out: number == 1 || number == 3,
-        adjusted: number == 3 || number == 5 || number == 6,
-        way: Way {
-            class,
-            n,
-            high,
-            low,
-            reach,
-        },
+impl BaselineSource for Source<'_> {
+    ghost use Rattle.long_run.specs.Sources.{held_meaning};
+
+    ghost meaning = { held_meaning };
+
+    fn metered(&self, asked: CustomerHour) -> Option<u32> {
+        answer!(self, held => held.metered(asked))
+    }
+
+    fn profile(&self, asked: CustomerHour, at: u32) -> Result<u32, Cause> {
+        answer!(self, held => held.profile(asked, at))
+    }
+
+    fn baseline(&self, asked: CustomerHour) -> Result<i32, Cause> {
+        answer!(self, held => held.baseline(asked))
     }
 }
 
@@ -90,173 +81,42 @@ impl Meters {
             loads: &self.loads,
         }
     }
-}
 
-// Settles over a scheduled source and a mandatory one of an interval record or filed.
-fn settle_below<S: BaselineSource>(
-    desk: &mut Desk,
-    meters: &Meters,
-    q: Settling,
-    scheduled: &S,
-    sort: Sort,
-) -> u32
-    ensures keeps { Keeps (on_desk desk.old) (on_desk desk.new) }
-{
-    if sort.number == 0 {
-        let source = Ranked::new(meters.intervals(), sort.method);
-        return desk.settle(
-            q.resource, q.day, q.hour, q.terms, &q.marks, scheduled, &source,
-        );
+    // A record without the days that are marked.
+    fn standing<R>(&self, below: R) -> LeftOut<'_, R> {
+        LeftOut {
+            below,
+            marks: &self.left,
+        }
     }
-    if sort.number == 1 {
-        let record = meters.intervals();
-        let standing = LeftOut {
-            below: &record,
-            marks: &meters.left,
-        };
-        let source = Ranked::new(standing, sort.method);
-        return desk.settle(
-            q.resource, q.day, q.hour, q.terms, &q.marks, scheduled, &source,
-        );
-    }
-    let source = meters.filings();
-    desk.settle(
-        q.resource, q.day, q.hour, q.terms, &q.marks, scheduled, &source,
-    )
-}
 
-// Settles over a scheduled source and a mandatory one of a register record or adjusted.
-fn settle_above<S: BaselineSource>(
-    desk: &mut Desk,
-    meters: &Meters,
-    q: Settling,
-    scheduled: &S,
-    sort: Sort,
-) -> u32
-    ensures keeps { Keeps (on_desk desk.old) (on_desk desk.new) }
-{
-    if sort.number == 2 {
-        let source = Ranked::new(meters.registers(), sort.method);
-        return desk.settle(
-            q.resource, q.day, q.hour, q.terms, &q.marks, scheduled, &source,
-        );
+    // A source whose baselines are adjusted.
+    fn adjusted<S>(&self, below: S) -> Adjusted<'_, S> {
+        Adjusted {
+            below,
+            starts: &self.starts,
+        }
     }
-    if sort.number == 3 {
-        let record = meters.registers();
-        let standing = LeftOut {
-            below: &record,
-            marks: &meters.left,
-        };
-        let source = Adjusted {
-            below: Ranked::new(standing, sort.method),
-            starts: &meters.starts,
-        };
-        return desk.settle(
-            q.resource, q.day, q.hour, q.terms, &q.marks, scheduled, &source,
-        );
-    }
-    if sort.number == 5 {
-        let ranked = Ranked::new(meters.intervals(), sort.method);
-        let source = Adjusted {
-            below: &ranked,
-            starts: &meters.starts,
-        };
-        return desk.settle(
-            q.resource, q.day, q.hour, q.terms, &q.marks, scheduled, &source,
-        );
-    }
-    let source = Adjusted {
-        below: meters.filings(),
-        starts: &meters.starts,
-    };
-    desk.settle(
-        q.resource, q.day, q.hour, q.terms, &q.marks, scheduled, &source,
-    )
-}
 
-// Settles over a scheduled source and a mandatory one by its number.
-fn settle_over<S: BaselineSource>(
-    desk: &mut Desk,
-    meters: &Meters,
-    q: Settling,
-    scheduled: &S,
-    sort: Sort,
-) -> u32
-    ensures keeps { Keeps (on_desk desk.old) (on_desk desk.new) }
-{
-    if sort.number < 2 || sort.number == 4 {
-        return settle_below(desk, meters, q, scheduled, sort);
+    // The source of a choice.
+    pub fn source(&self, choice: Choice) -> Result<Source<'_>, Refusal> {
+        let method = choice.way.text.parse::<Method>()?;
+        Ok(match choice.sort {
+            Sort::Intervals => Source::Intervals(Ranked::new(self.intervals(), method)),
+            Sort::LeftOutIntervals => {
+                Source::LeftOutIntervals(Ranked::new(self.standing(self.intervals()), method))
+            }
+            Sort::Registers => Source::Registers(Ranked::new(self.registers(), method)),
+            Sort::AdjustedRegisters => {
+                let ranked = Ranked::new(self.standing(self.registers()), method);
+                Source::AdjustedRegisters(self.adjusted(ranked))
+            }
+            Sort::Filed => Source::Filed(self.filings()),
+            Sort::AdjustedIntervals => {
+                let ranked = Ranked::new(self.intervals(), method);
+                Source::AdjustedIntervals(self.adjusted(ranked))
+            }
+            Sort::AdjustedFiled => Source::AdjustedFiled(self.adjusted(self.filings())),
+        })
     }
-    settle_above(desk, meters, q, scheduled, sort)
-}
-
-// Settles over two sources by their numbers.
-pub fn settle_by(
-    desk: &mut Desk,
-    meters: &Meters,
-    q: Settling,
-    scheduled: Sort,
-    mandatory: Sort,
-) -> u32
-    ensures keeps { Keeps (on_desk desk.old) (on_desk desk.new) }
-{
-    if scheduled.number == 0 {
-        let source = Ranked::new(meters.intervals(), scheduled.method);
-        return settle_over(desk, meters, q, &source, mandatory);
-    }
-    if scheduled.number == 1 {
-        let record = meters.intervals();
-        let standing = LeftOut {
-            below: &record,
-            marks: &meters.left,
-        };
-        let source = Ranked::new(standing, scheduled.method);
-        return settle_over(desk, meters, q, &source, mandatory);
-    }
-    if scheduled.number == 4 {
-        let source = meters.filings();
-        return settle_over(desk, meters, q, &source, mandatory);
-    }
-    settle_from(desk, meters, q, scheduled, mandatory)
-}
-
-// Settles over a scheduled source of a register record or adjusted.
-fn settle_from(
-    desk: &mut Desk,
-    meters: &Meters,
-    q: Settling,
-    scheduled: Sort,
-    mandatory: Sort,
-) -> u32
-    ensures keeps { Keeps (on_desk desk.old) (on_desk desk.new) }
-{
-    if scheduled.number == 2 {
-        let source = Ranked::new(meters.registers(), scheduled.method);
-        return settle_over(desk, meters, q, &source, mandatory);
-    }
-    if scheduled.number == 3 {
-        let record = meters.registers();
-        let standing = LeftOut {
-            below: &record,
-            marks: &meters.left,
-        };
-        let source = Adjusted {
-            below: Ranked::new(standing, scheduled.method),
-            starts: &meters.starts,
-        };
-        return settle_over(desk, meters, q, &source, mandatory);
-    }
-    if scheduled.number == 5 {
-        let ranked = Ranked::new(meters.intervals(), scheduled.method);
-        let source = Adjusted {
-            below: &ranked,
-            starts: &meters.starts,
-        };
-        return settle_over(desk, meters, q, &source, mandatory);
-    }
-    let source = Adjusted {
-        below: meters.filings(),
-        starts: &meters.starts,
-    };
-    settle_over(desk, meters, q, &source, mandatory)
 }

@@ -4,8 +4,8 @@ use Rattle.long_run.proofs.trial.Trial.correct_within.Goals as goal
 
 pub finish-requires : goal.finish-requires
 finish-requires c =
-    let slip : Slip = named_by c.in-Ok.slip in
-    c.one_call-in-Ok.ensures.keeps slip (c.one_call.ensures.keeps slip c.in-Ok.ensures.finishes)
+    let slip : Slip = named_by c.in-Some.slip in
+    c.one_call-in-Some.ensures.keeps slip (c.one_call.ensures.keeps slip c.in-Some.ensures.finishes)
 
-pub returns-in-Ok : goal.returns-in-Ok
-returns-in-Ok c = record { keeps = λ s e. c.finish.ensures.keeps s (c.one_call-in-Ok.ensures.keeps s (c.one_call.ensures.keeps s (c.in-Ok.ensures.keeps s e))) (c.in-Ok.ensures.apart s e) }
+pub returns-in-Some : goal.returns-in-Some
+returns-in-Some c = record { keeps = λ s e. c.finish.ensures.keeps s (c.one_call-in-Some.ensures.keeps s (c.one_call.ensures.keeps s (c.in-Some.ensures.keeps s e))) (c.in-Some.ensures.apart s e) }
