@@ -5,7 +5,7 @@ ghost use Rattle.baseline.specs.Sources.{start_on, ThreeLoads, rounded_third, cl
 
 use crate::filed::{HIGHEST, LOWEST};
 use crate::source::BaselineSource;
-use load::places::byte_of;
+use load::places::{CustomerHour, byte_of};
 use refusal::Cause;
 
 // An order that starts before this hour adjusts nothing.
@@ -70,31 +70,31 @@ fn adjusted_by(baseline: i32, gap: i32) -> i32
 
 impl<S: BaselineSource> Adjusted<'_, S> {
     // A customer's baseline of a day, adjusted if every load and profile before the day's first order exists.
-    fn brought(&self, customer: u32, day: u32, baseline: i32) -> i32
+    fn brought(&self, asked: CustomerHour, baseline: i32) -> i32
         requires baseline { WithinBounds baseline }
-        ensures value { result ≡ brought_by baseline (gap_on (S.meaning self.now.below) self.now.starts.now customer day) }
+        ensures value { result ≡ brought_by baseline (gap_on (S.meaning self.now.below) self.now.starts.now asked.customer asked.day) }
         ensures bounded { WithinBounds result }
     {
-        let start = start_of(self.starts, day);
+        let start = start_of(self.starts, asked.day);
         if start < FIRST_ADJUSTED {
             return baseline;
         }
-        let Some(load_a) = self.below.metered(customer, day, start - 4) else {
+        let Some(load_a) = self.below.metered(asked.in_hour(start - 4)) else {
             return baseline;
         };
-        let Some(load_b) = self.below.metered(customer, day, start - 3) else {
+        let Some(load_b) = self.below.metered(asked.in_hour(start - 3)) else {
             return baseline;
         };
-        let Some(load_c) = self.below.metered(customer, day, start - 2) else {
+        let Some(load_c) = self.below.metered(asked.in_hour(start - 2)) else {
             return baseline;
         };
-        let Ok(profile_a) = self.below.profile(customer, day, start, start - 4) else {
+        let Ok(profile_a) = self.below.profile(asked.in_hour(start), start - 4) else {
             return baseline;
         };
-        let Ok(profile_b) = self.below.profile(customer, day, start, start - 3) else {
+        let Ok(profile_b) = self.below.profile(asked.in_hour(start), start - 3) else {
             return baseline;
         };
-        let Ok(profile_c) = self.below.profile(customer, day, start, start - 2) else {
+        let Ok(profile_c) = self.below.profile(asked.in_hour(start), start - 2) else {
             return baseline;
         };
         let gap = gap_between((load_a, load_b, load_c), (profile_a, profile_b, profile_c));
@@ -105,16 +105,16 @@ impl<S: BaselineSource> Adjusted<'_, S> {
 impl<S: BaselineSource> BaselineSource for Adjusted<'_, S> {
     ghost meaning = { λ x. adjusted_source x.starts.now (S.BaselineSource.meaning x.below) };
 
-    fn metered(&self, customer: u32, day: u32, hour: u32) -> Option<u32> {
-        self.below.metered(customer, day, hour)
+    fn metered(&self, asked: CustomerHour) -> Option<u32> {
+        self.below.metered(asked)
     }
 
-    fn profile(&self, customer: u32, day: u32, hour: u32, at: u32) -> Result<u32, Cause> {
-        self.below.profile(customer, day, hour, at)
+    fn profile(&self, asked: CustomerHour, at: u32) -> Result<u32, Cause> {
+        self.below.profile(asked, at)
     }
 
-    fn baseline(&self, customer: u32, day: u32, hour: u32) -> Result<i32, Cause> {
-        let baseline = self.below.baseline(customer, day, hour)?;
-        Ok(self.brought(customer, day, baseline))
+    fn baseline(&self, asked: CustomerHour) -> Result<i32, Cause> {
+        let baseline = self.below.baseline(asked)?;
+        Ok(self.brought(asked, baseline))
     }
 }

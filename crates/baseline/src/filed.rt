@@ -4,7 +4,7 @@ ghost use Rattle.baseline.specs.Meaning.{WithinBounds};
 ghost use Rattle.baseline.specs.Sources.{admissible, filed_source};
 
 use crate::source::BaselineSource;
-use load::places::{is_hour, is_in_range, load_in, place_of};
+use load::places::{CustomerHour, is_hour};
 use refusal::Cause;
 
 // The least and the greatest baseline, in Wh.
@@ -34,20 +34,20 @@ fn admissible_baseline(baseline: i32) -> Result<i32, Cause>
 impl BaselineSource for FiledSource<'_> {
     ghost meaning = { λ x. filed_source x.baselines.now x.loads.now };
 
-    fn metered(&self, customer: u32, day: u32, hour: u32) -> Option<u32> {
-        load_in(self.loads, customer, day, hour)
+    fn metered(&self, asked: CustomerHour) -> Option<u32> {
+        asked.load_in(self.loads)
     }
 
-    fn profile(&self, customer: u32, day: u32, hour: u32, at: u32) -> Result<u32, Cause> {
-        if is_in_range(customer, day, hour) && is_hour(at) {
+    fn profile(&self, asked: CustomerHour, at: u32) -> Result<u32, Cause> {
+        if asked.is_in_range() && is_hour(at) {
             Err(Cause::MissingLoad)
         } else {
             Err(Cause::OutOfRange)
         }
     }
 
-    fn baseline(&self, customer: u32, day: u32, hour: u32) -> Result<i32, Cause> {
-        let Some(place) = place_of(customer, day, hour) else {
+    fn baseline(&self, asked: CustomerHour) -> Result<i32, Cause> {
+        let Some(place) = asked.place() else {
             return Err(Cause::OutOfRange);
         };
         if place >= self.baselines.len() {

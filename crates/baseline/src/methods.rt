@@ -5,12 +5,15 @@ ghost use Rattle.baseline.specs.Methods.{method_or_refusal};
 use crate::method::Method;
 use load::loads::DayClass;
 use refusal::Refusal;
+use std::str::FromStr;
 
-impl Method {
-    // The method that a text calls for; any other text is refused.
-    pub fn named(text: &str) -> Result<Method, Refusal>
-        ensures value { result ≡ method_or_refusal text.now }
-    {
+// The method that a text calls for; any other text is refused.
+impl FromStr for Method {
+    type Err = Refusal;
+
+    ghost from_str_gives = { λ text r. r ≡ method_or_refusal text };
+
+    fn from_str(text: &str) -> Result<Method, Refusal> {
         let (class, n, high, low, reach) = match text {
             "max45" => (DayClass::Workday, 5, 0, 1, 10),
             "mid610" => (DayClass::Workday, 10, 2, 2, 20),

@@ -10,7 +10,7 @@ use crate::reference::{Reference, References};
 use crate::source::BaselineSource;
 use crate::striking::is_left;
 use load::loads::LoadRecord;
-use load::places::{is_hour, is_in_range};
+use load::places::{CustomerHour, is_hour};
 use refusal::Cause;
 
 // One half is added to the quotient, and the fraction dropped.
@@ -50,30 +50,33 @@ impl<R: LoadRecord> Ranked<R> {
     }
 
     // The day as a reference day, if it stands and has a load in the hour.
-    fn reference_on(&self, customer: u32, day: u32, hour: u32) -> Option<Reference>
-        ensures value { result ≡ reference_on (R.meaning self.now.loads) customer hour day }
+    fn reference_on(&self, asked: CustomerHour) -> Option<Reference>
+        ensures value { result ≡ reference_on (R.meaning self.now.loads) asked.customer asked.hour asked.day }
     {
-        if !self.loads.stands(customer, day) {
+        if !self.loads.stands(asked.customer, asked.day) {
             return None;
         }
-        let load = self.loads.load(customer, day, hour)?;
-        Some(Reference { day, load })
+        let load = self.loads.load(asked)?;
+        Some(Reference {
+            day: asked.day,
+            load,
+        })
     }
 
     // The reference days before a day, newest first.
-    fn reference_days(&self, customer: u32, day: u32, hour: u32) -> References
-        ensures value { listed result ≡ reference_days (R.meaning self.now.loads) self.now.method customer day hour }
+    fn reference_days(&self, asked: CustomerHour) -> References
+        ensures value { listed result ≡ reference_days (R.meaning self.now.loads) self.now.method asked.customer asked.day asked.hour }
     {
         let mut days = [Reference { day: 0, load: 0 }; 10];
         let mut count = 0;
         let mut left = self.method.reach;
-        'search: for past in (0..day).rev() {
+        'search: for past in (0..asked.day).rev() {
             if count == self.method.n || left == 0 {
                 break 'search;
             }
             if self.loads.class(past) == self.method.class {
                 left -= 1;
-                if let Some(reference) = self.reference_on(customer, past, hour) {
+                if let Some(reference) = self.reference_on(CustomerHour { day: past, ..asked }) {
                     days[count] = reference;
                     count += 1;
                 }
@@ -85,22 +88,25 @@ impl<R: LoadRecord> Ranked<R> {
     // The rounded mean in an hour of the days that are left once the `low` lowest and the `high` highest are struck.
     fn mean_of_left(
         &self,
-        customer: u32,
-        hour: u32,
+        asked: CustomerHour,
         days: &[Reference],
         low: usize,
         high: usize,
     ) -> Result<u32, Cause>
         requires few { length days.now ≤ 10 }
         requires some { 0 < length (unstruck low high days.now) }
-        ensures value { result ≡ mean_load (R.meaning self.now.loads) customer hour (unstruck low high days.now) }
+        ensures value { result ≡ mean_load (R.meaning self.now.loads) asked.customer asked.hour (unstruck low high days.now) }
         ensures bounded { IfOk result (λ v. v ≤ 20000000) }
     {
         let mut sum = 0;
         let mut count = 0;
         for x in days {
             if is_left(days, low, high, x) {
-                let Some(load) = self.loads.load(customer, x.day, hour) else {
+                let Some(load) = self.loads.load(CustomerHour {
+                    day: x.day,
+                    ..asked
+                })
+                else {
                     return Err(Cause::MissingLoad);
                 };
                 sum += u64::from(load);
@@ -110,21 +116,20 @@ impl<R: LoadRecord> Ranked<R> {
         Ok(rounded_mean_of(sum, count))
     }
 
-    // The mean in hour `at` over the days chosen for `hour`.
-    fn mean_of_days(&self, customer: u32, day: u32, hour: u32, at: u32) -> Result<u32, Cause>
-        ensures value { result ≡ profile_of (R.meaning self.now.loads) self.now.method customer day hour at }
+    // The mean in hour `at` over the days chosen for the hour asked.
+    fn mean_of_days(&self, asked: CustomerHour, at: u32) -> Result<u32, Cause>
+        ensures value { result ≡ profile_of (R.meaning self.now.loads) self.now.method asked.customer asked.day asked.hour at }
         ensures bounded { IfOk result (λ v. v ≤ 20000000) }
     {
-        if !is_in_range(customer, day, hour) || !is_hour(at) {
+        if !asked.is_in_range() || !is_hour(at) {
             return Err(Cause::OutOfRange);
         }
-        let found = self.reference_days(customer, day, hour);
+        let found = self.reference_days(asked);
         if found.count < self.method.n {
             return Err(Cause::TooFewDays);
         }
         self.mean_of_left(
-            customer,
-            at,
+            asked.in_hour(at),
             &found.days[0..found.count],
             self.method.low,
             self.method.high,
@@ -135,16 +140,16 @@ impl<R: LoadRecord> Ranked<R> {
 impl<R: LoadRecord> BaselineSource for Ranked<R> {
     ghost meaning = { λ x. ranked_source (R.LoadRecord.meaning x.loads) x.method };
 
-    fn metered(&self, customer: u32, day: u32, hour: u32) -> Option<u32> {
-        self.loads.load(customer, day, hour)
+    fn metered(&self, asked: CustomerHour) -> Option<u32> {
+        self.loads.load(asked)
     }
 
-    fn profile(&self, customer: u32, day: u32, hour: u32, at: u32) -> Result<u32, Cause> {
-        self.mean_of_days(customer, day, hour, at)
+    fn profile(&self, asked: CustomerHour, at: u32) -> Result<u32, Cause> {
+        self.mean_of_days(asked, at)
     }
 
-    fn baseline(&self, customer: u32, day: u32, hour: u32) -> Result<i32, Cause> {
-        let mean = self.mean_of_days(customer, day, hour, hour)?;
+    fn baseline(&self, asked: CustomerHour) -> Result<i32, Cause> {
+        let mean = self.mean_of_days(asked, asked.hour)?;
         Ok(mean as i32)
     }
 }

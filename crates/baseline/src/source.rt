@@ -3,6 +3,7 @@ ghost use Rattle.std.specs.Prelude.{◌≡◌, ◌≤◌, false, ◌&&◌, IfSom
 ghost use Rattle.load.specs.Meaning.{in_range, is_hour};
 ghost use Rattle.baseline.specs.Meaning.{SourceMeaning, WithinBounds};
 
+use load::places::CustomerHour;
 use refusal::Cause;
 
 // Metered loads, profiles and baselines of some customers, in Wh.
@@ -10,36 +11,36 @@ pub trait BaselineSource {
     ghost meaning: { Self → SourceMeaning };
 
     // The metered load of a customer on a day in an hour, or none if it is missing.
-    fn metered(&self, customer: u32, day: u32, hour: u32) -> Option<u32>
-        ensures value { result ≡ (meaning self.now).metered customer day hour }
+    fn metered(&self, asked: CustomerHour) -> Option<u32>
+        ensures value { result ≡ (meaning self.now).metered asked.customer asked.day asked.hour }
         ensures bounded { IfSome result (λ v. v ≤ 20000000) };
 
-    // The mean load in hour `at` over the days that are chosen for `hour`.
-    fn profile(&self, customer: u32, day: u32, hour: u32, at: u32) -> Result<u32, Cause>
-        ensures value { result ≡ (meaning self.now).profile customer day hour at }
+    // The mean load in hour `at` over the days that are chosen for the hour asked.
+    fn profile(&self, asked: CustomerHour, at: u32) -> Result<u32, Cause>
+        ensures value { result ≡ (meaning self.now).profile asked.customer asked.day asked.hour at }
         ensures bounded { IfOk result (λ v. v ≤ 20000000) }
-        ensures outside { (in_range customer day hour && is_hour at) ≡ false → result ≡ Err Cause.OutOfRange };
+        ensures outside { (in_range asked.customer asked.day asked.hour && is_hour at) ≡ false → result ≡ Err Cause.OutOfRange };
 
     // The baseline of a customer on a day in an hour.
-    fn baseline(&self, customer: u32, day: u32, hour: u32) -> Result<i32, Cause>
-        ensures value { result ≡ (meaning self.now).baseline customer day hour }
+    fn baseline(&self, asked: CustomerHour) -> Result<i32, Cause>
+        ensures value { result ≡ (meaning self.now).baseline asked.customer asked.day asked.hour }
         ensures bounded { IfOk result WithinBounds }
-        ensures outside { in_range customer day hour ≡ false → result ≡ Err Cause.OutOfRange };
+        ensures outside { in_range asked.customer asked.day asked.hour ≡ false → result ≡ Err Cause.OutOfRange };
 }
 
 // A source that is lent, so that several layers can stand over one.
 impl<S: BaselineSource> BaselineSource for &S {
     ghost meaning = { λ x. S.BaselineSource.meaning x.now };
 
-    fn metered(&self, customer: u32, day: u32, hour: u32) -> Option<u32> {
-        S::metered(*self, customer, day, hour)
+    fn metered(&self, asked: CustomerHour) -> Option<u32> {
+        S::metered(*self, asked)
     }
 
-    fn profile(&self, customer: u32, day: u32, hour: u32, at: u32) -> Result<u32, Cause> {
-        S::profile(*self, customer, day, hour, at)
+    fn profile(&self, asked: CustomerHour, at: u32) -> Result<u32, Cause> {
+        S::profile(*self, asked, at)
     }
 
-    fn baseline(&self, customer: u32, day: u32, hour: u32) -> Result<i32, Cause> {
-        S::baseline(*self, customer, day, hour)
+    fn baseline(&self, asked: CustomerHour) -> Result<i32, Cause> {
+        S::baseline(*self, asked)
     }
 }

@@ -2,7 +2,7 @@
 ghost use Rattle.load.specs.Records.{interval_record};
 
 use crate::loads::{DayClass, LoadRecord};
-use crate::places::{class_in, is_customer_day, load_in};
+use crate::places::{CustomerHour, class_in, is_customer_day};
 
 // Loads in Wh, customer by customer, day by day and hour by hour, and a byte for the class of each day.
 #[derive(Clone, Copy)]
@@ -14,8 +14,8 @@ pub struct IntervalRecord<'a> {
 impl LoadRecord for IntervalRecord<'_> {
     ghost meaning = { λ x. interval_record x.loads.now x.classes.now };
 
-    fn load(&self, customer: u32, day: u32, hour: u32) -> Option<u32> {
-        load_in(self.loads, customer, day, hour)
+    fn load(&self, asked: CustomerHour) -> Option<u32> {
+        asked.load_in(self.loads)
     }
 
     fn class(&self, day: u32) -> DayClass {

@@ -3,7 +3,7 @@ ghost use Rattle.std.specs.Prelude.{◌≡◌};
 ghost use Rattle.load.specs.Records.{at, is_left_out, without};
 
 use crate::loads::{DayClass, LoadRecord};
-use crate::places::byte_of;
+use crate::places::{CustomerHour, byte_of};
 
 // The byte of a day that is left out.
 const LEFT_OUT: u8 = 1;
@@ -28,8 +28,8 @@ fn is_marked(marks: &[u8], day: u32) -> bool
 impl<R: LoadRecord> LoadRecord for LeftOut<'_, R> {
     ghost meaning = { λ x. without x.marks.now (R.LoadRecord.meaning x.below) };
 
-    fn load(&self, customer: u32, day: u32, hour: u32) -> Option<u32> {
-        self.below.load(customer, day, hour)
+    fn load(&self, asked: CustomerHour) -> Option<u32> {
+        self.below.load(asked)
     }
 
     fn class(&self, day: u32) -> DayClass {

@@ -2,6 +2,8 @@
 ghost use Rattle.std.specs.Prelude.{◌≡◌, ◌≤◌, false, ◌&&◌, IfSome, None};
 ghost use Rattle.load.specs.Meaning.{LoadMeaning, in_range, is_customer, is_day};
 
+use crate::places::CustomerHour;
+
 // The class of a day.
 #[derive(Clone, Copy, PartialEq, Eq, Debug)]
 pub enum DayClass {
@@ -15,10 +17,10 @@ pub trait LoadRecord {
     ghost meaning: { Self → LoadMeaning };
 
     // The load of a customer on a day in an hour, or none if it is missing.
-    fn load(&self, customer: u32, day: u32, hour: u32) -> Option<u32>
-        ensures value { result ≡ (meaning self.now).load customer day hour }
+    fn load(&self, asked: CustomerHour) -> Option<u32>
+        ensures value { result ≡ (meaning self.now).load asked.customer asked.day asked.hour }
         ensures bounded { IfSome result (λ v. v ≤ 20000000) }
-        ensures outside { in_range customer day hour ≡ false → result ≡ None };
+        ensures outside { in_range asked.customer asked.day asked.hour ≡ false → result ≡ None };
 
     // The class of a day.
     fn class(&self, day: u32) -> DayClass
@@ -35,8 +37,8 @@ pub trait LoadRecord {
 impl<R: LoadRecord> LoadRecord for &R {
     ghost meaning = { λ x. R.LoadRecord.meaning x.now };
 
-    fn load(&self, customer: u32, day: u32, hour: u32) -> Option<u32> {
-        R::load(*self, customer, day, hour)
+    fn load(&self, asked: CustomerHour) -> Option<u32> {
+        R::load(*self, asked)
     }
 
     fn class(&self, day: u32) -> DayClass {

@@ -31,23 +31,6 @@ pub fn is_hour(hour: u32) -> bool
     1 <= hour && hour <= HOURS
 }
 
-// Whether customer, day and hour are all in range.
-pub fn is_in_range(customer: u32, day: u32, hour: u32) -> bool
-    ensures value { result ≡ in_range customer day hour }
-{
-    is_customer_day(customer, day) && is_hour(hour)
-}
-
-// Where an hour's number lies in a list that goes customer by customer, day by day and hour by hour.
-pub fn place_of(customer: u32, day: u32, hour: u32) -> Option<usize>
-    ensures value { result ≡ (if in_range customer day hour then Some (interval_place customer day hour) else None) }
-{
-    if !is_in_range(customer, day, hour) {
-        return None;
-    }
-    Some(((customer * DAYS + day) * HOURS + hour - 1) as usize)
-}
-
 // The number at a place of a list, or none past its end.
 pub(crate) fn number_at(numbers: &[u32], place: usize) -> Option<u32>
     ensures value { result ≡ at numbers.now place }
@@ -73,13 +56,49 @@ pub(crate) fn plausible_load(load: Option<u32>) -> Option<u32>
     }
 }
 
-// The load in a list that goes customer by customer, day by day and hour by hour.
-pub fn load_in(loads: &[u32], customer: u32, day: u32, hour: u32) -> Option<u32>
-    ensures value { result ≡ interval_load loads.now customer day hour }
-    ensures bounded { IfSome result (λ v. v ≤ 20000000) }
-{
-    let place = place_of(customer, day, hour)?;
-    plausible_load(number_at(loads, place))
+// An hour of a customer's: each question of a record and of a source is about one.
+#[derive(Clone, Copy, PartialEq, Eq, Debug)]
+pub struct CustomerHour {
+    pub customer: u32,
+    pub day: u32,
+    pub hour: u32,
+}
+
+impl CustomerHour {
+    // Whether customer, day and hour are all in range.
+    pub fn is_in_range(self) -> bool
+        ensures value { result ≡ in_range self.customer self.day self.hour }
+    {
+        is_customer_day(self.customer, self.day) && is_hour(self.hour)
+    }
+
+    // Another hour of the same customer and day.
+    pub fn in_hour(self, hour: u32) -> CustomerHour
+        ensures customer { result.customer ≡ self.customer }
+        ensures day { result.day ≡ self.day }
+        ensures hour { result.hour ≡ hour }
+    {
+        CustomerHour { hour, ..self }
+    }
+
+    // Where the hour's number lies in a list that goes customer by customer, day by day and hour by hour.
+    pub fn place(self) -> Option<usize>
+        ensures value { result ≡ (if in_range self.customer self.day self.hour then Some (interval_place self.customer self.day self.hour) else None) }
+    {
+        if !self.is_in_range() {
+            return None;
+        }
+        Some(((self.customer * DAYS + self.day) * HOURS + self.hour - 1) as usize)
+    }
+
+    // The load in a list that goes customer by customer, day by day and hour by hour.
+    pub fn load_in(self, loads: &[u32]) -> Option<u32>
+        ensures value { result ≡ interval_load loads.now self.customer self.day self.hour }
+        ensures bounded { IfSome result (λ v. v ≤ 20000000) }
+    {
+        let place = self.place()?;
+        plausible_load(number_at(loads, place))
+    }
 }
 
 // The class of a day by a list with a byte for each.

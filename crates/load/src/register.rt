@@ -3,7 +3,7 @@ ghost use Rattle.std.specs.Prelude.{◌≡◌};
 ghost use Rattle.load.specs.Records.{counted, register_record};
 
 use crate::loads::{DayClass, LoadRecord};
-use crate::places::{class_in, is_customer_day, is_in_range, number_at, plausible_load};
+use crate::places::{CustomerHour, class_in, is_customer_day, number_at, plausible_load};
 
 // A customer has one reading before the first hour, and one at the end of each.
 const READINGS: usize = 2305;
@@ -37,11 +37,13 @@ fn counted_between(before: Option<u32>, after: Option<u32>) -> Option<u32>
 impl LoadRecord for RegisterRecord<'_> {
     ghost meaning = { λ x. register_record x.readings.now x.classes.now };
 
-    fn load(&self, customer: u32, day: u32, hour: u32) -> Option<u32> {
-        if !is_in_range(customer, day, hour) {
+    fn load(&self, asked: CustomerHour) -> Option<u32> {
+        if !asked.is_in_range() {
             return None;
         }
-        let place = customer as usize * READINGS + day as usize * HOURS + hour as usize;
+        let place = asked.customer as usize * READINGS
+            + asked.day as usize * HOURS
+            + asked.hour as usize;
         let before = number_at(self.readings, place - 1);
         let after = number_at(self.readings, place);
         plausible_load(counted_between(before, after))

@@ -11,8 +11,8 @@ mean_of_left-requires g c =
     let m = g.R.LoadRecord.meaning c.args.self.now.loads in
     let k = c.args.self.now.method in
     let r = c.reference_days-found.result in
-    let refs = reference_days m k c.args.customer c.args.day c.args.hour in
+    let refs = reference_days m k c.args.asked.customer c.args.asked.day c.args.asked.hour in
     let same : take (r.count - 0) r.days ≡ refs = ap (λ n. take n r.days) (sub-zero r.count) ∙ c.reference_days-found.ensures.value in
     let long : length (take (r.count - 0) r.days) ≡ r.count = simp length-take (omega arith) in
     let enough : k.n ≤ length refs = omega (arith, ap length same) in
-    record { few = omega arith; some = subst (λ (xs : List Reference). 0 < length (unstruck k.low k.high xs)) (sym same) (count_left m k c.args.customer c.args.day c.args.hour enough) }
+    record { few = omega arith; some = subst (λ (xs : List Reference). 0 < length (unstruck k.low k.high xs)) (sym same) (count_left m k c.args.asked.customer c.args.asked.day c.args.asked.hour enough) }

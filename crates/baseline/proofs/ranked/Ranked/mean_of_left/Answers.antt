@@ -12,7 +12,7 @@ returns-in_default g c =
     let xs = c.args.days.now in
     let p = stays c.args.low c.args.high xs in
     let rest = rest_yes p xs c.loop-x.x-index _ c.loop-x-test.true (sym c.if-is_left.ensures.value) in
-    let none = total_missing m c.args.customer c.args.hour _ _ _ _ _ rest c.in_default.ensures.value c.loop-x.invariant.3 in
+    let none = total_missing m c.args.asked.customer c.args.asked.hour _ _ _ _ _ rest c.in_default.ensures.value c.loop-x.invariant.3 in
     record { value = ap (λ o. mean_or_cause o (length (unstruck c.args.low c.args.high xs))) none; bounded = tt }
 
 pub loop-x-preserved : goal.loop-x-preserved
@@ -28,13 +28,13 @@ loop-x-preserved g c =
           let bound : w.in-Some.load ≤ 20000000 = w.in-Some.ensures.bounded in
           let long = ap length rest in
           let sum : c.if-is_left.sum ≡ c.loop-x.sum + w.in-Some.load = omega (arith, w.sum-is, w.from-sum.ensures) in
-          let total = total_more m c.args.customer c.args.hour _ _ _ _ _ _ rest w.in-Some.ensures.value v.3 in
-          (omega (arith, w.count-is), omega (arith, w.count-is), omega (arith, w.count-is, long), ap (λ s. plus (Some s) (total_load m c.args.customer c.args.hour (filter p (drop (i + 1) xs)))) sum ∙ total)
+          let total = total_more m c.args.asked.customer c.args.asked.hour _ _ _ _ _ _ rest w.in-Some.ensures.value v.3 in
+          (omega (arith, w.count-is), omega (arith, w.count-is), omega (arith, w.count-is, long), ap (λ s. plus (Some s) (total_load m c.args.asked.customer c.args.asked.hour (filter p (drop (i + 1) xs)))) sum ∙ total)
       | else-is_left w ↦
           let rest = rest_no p xs i _ c.loop-x-test.true (sym w.if-is_left.ensures.value) in
           let long = ap length rest in
-          let sum = ap (λ s. plus (Some s) (total_load m c.args.customer c.args.hour (filter p (drop (i + 1) xs)))) w.sum-is in
-          (omega (arith, w.count-is), omega (arith, w.count-is, w.sum-is), omega (arith, w.count-is, long), sum ∙ ap (λ rs. plus (Some c.loop-x.sum) (total_load m c.args.customer c.args.hour rs)) (sym rest) ∙ v.3)
+          let sum = ap (λ s. plus (Some s) (total_load m c.args.asked.customer c.args.asked.hour (filter p (drop (i + 1) xs)))) w.sum-is in
+          (omega (arith, w.count-is), omega (arith, w.count-is, w.sum-is), omega (arith, w.count-is, long), sum ∙ ap (λ rs. plus (Some c.loop-x.sum) (total_load m c.args.asked.customer c.args.asked.hour rs)) (sym rest) ∙ v.3)
     ]
 
 pub rounded_mean_of-requires : goal.rounded_mean_of-requires
@@ -50,7 +50,7 @@ returns g c =
     let none = at_drop_all (filter p) c.args.days.now c.loop-x.x-index c.loop-x-test.false in
     let long = ap length none in
     let count : c.loop-x.count ≡ length (unstruck c.args.low c.args.high c.args.days.now) = omega (arith, long) in
-    let total = total_all m c.args.customer c.args.hour _ _ _ none c.loop-x.invariant.3 in
+    let total = total_all m c.args.asked.customer c.args.asked.hour _ _ _ none c.loop-x.invariant.3 in
     record {
       value = ap Ok c.rounded_mean_of.ensures.value ∙ ap (λ n. mean_or_cause (Some c.loop-x.sum) n) count ∙ ap (λ o. mean_or_cause o (length (unstruck c.args.low c.args.high c.args.days.now))) total;
       bounded = c.rounded_mean_of.ensures.bounded;

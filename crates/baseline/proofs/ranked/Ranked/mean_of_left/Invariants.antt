@@ -11,4 +11,4 @@ invariant-loop-x g l =
     (l.count ≤ l.x-index)
     × (l.sum ≤ 20000000 * l.count)
     × (l.count + length rest ≡ length left)
-    × (plus (Some l.sum) (total_load m l.customer l.hour rest) ≡ total_load m l.customer l.hour left)
+    × (plus (Some l.sum) (total_load m l.asked.customer l.asked.hour rest) ≡ total_load m l.asked.customer l.asked.hour left)

@@ -12,7 +12,7 @@ search-preserved-in-Some g c =
     let s = c.search in
     let room : s.count < length s.days = omega (arith, s.invariant.1) in
     let cls = sym c.class.ensures.value ∙ same_true the_type (search rules) _ _ (sym c.if-eq.ensures) in
-    let found = ahead_some m k.class c.args.customer c.args.hour (k.n - s.count) (k.n - (s.count + 1)) s.left (s.left - 1) s.past (s.past - 1) c.in-Some.reference
+    let found = ahead_some m k.class c.args.asked.customer c.args.asked.hour (k.n - s.count) (k.n - (s.count + 1)) s.left (s.left - 1) s.past (s.past - 1) c.in-Some.reference
     (omega arith) (omega arith) (omega arith) (class_same _ _ cls) (sym c.in-Some.ensures.value) in (
       omega arith,
       length-set s.days s.count c.in-Some.reference ∙ s.invariant.1,
@@ -25,7 +25,7 @@ search-preserved-in_default g c =
     let k = c.args.self.now.method in
     let s = c.search in
     let cls = sym c.class.ensures.value ∙ same_true the_type (search rules) _ _ (sym c.if-eq.ensures) in
-    let same = ahead_none m k.class c.args.customer c.args.hour (k.n - s.count) s.left (s.left - 1) s.past (s.past - 1)
+    let same = ahead_none m k.class c.args.asked.customer c.args.asked.hour (k.n - s.count) s.left (s.left - 1) s.past (s.past - 1)
     (omega arith) (omega arith) (class_same _ _ cls) (sym c.in_default.ensures.value) in
     (s.invariant.0, s.invariant.1, ap (λ ys. take s.count s.days ++ ys) (sym same) ∙ s.invariant.2)
 
@@ -34,7 +34,7 @@ search-preserved g c =
     let m = g.R.LoadRecord.meaning c.args.self.now.loads in
     let k = c.args.self.now.method in
     let s = c.search in
-    let same = ahead_other m k.class c.args.customer c.args.hour (k.n - s.count) s.left s.past (s.past - 1)
+    let same = ahead_other m k.class c.args.asked.customer c.args.asked.hour (k.n - s.count) s.left s.past (s.past - 1)
     (omega arith) (class_other _ _ (λ e. same_false the_type _ _ (sym c.if-eq.ensures) (c.class.ensures.value ∙ e))) in
     (s.invariant.0, s.invariant.1, ap (λ ys. take s.count s.days ++ ys) (sym same) ∙ s.invariant.2)
 
@@ -45,9 +45,9 @@ returns g c =
     let s = c.search in
     let w = k.n - s.count in
     elim c.search-test.branch [
-      | else-search-test v ↦ record { value = all_found _ _ _ (ahead_first m k.class c.args.customer c.args.hour w s.left s.past (omega (arith, v.search-test.false))) s.invariant.2 }
+      | else-search-test v ↦ record { value = all_found _ _ _ (ahead_first m k.class c.args.asked.customer c.args.asked.hour w s.left s.past (omega (arith, v.search-test.false))) s.invariant.2 }
       | then-search-test+then-count-self v ↦ elim v.then-count-self.branch [
-        | then-count-self-via-then-count-self v' ↦ record { value = all_found _ _ _ (ahead_found m k.class c.args.customer c.args.hour w s.left s.past (omega (arith, v'.if-count-self.true))) s.invariant.2 }
-        | then-count-self-via-else-count-self+then-left-eq0 v' ↦ record { value = all_found _ _ _ (ahead_spent m k.class c.args.customer c.args.hour w s.left s.past (omega (arith, v'.if-left-eq0.true))) s.invariant.2 }
+        | then-count-self-via-then-count-self v' ↦ record { value = all_found _ _ _ (ahead_found m k.class c.args.asked.customer c.args.asked.hour w s.left s.past (omega (arith, v'.if-count-self.true))) s.invariant.2 }
+        | then-count-self-via-else-count-self+then-left-eq0 v' ↦ record { value = all_found _ _ _ (ahead_spent m k.class c.args.asked.customer c.args.asked.hour w s.left s.past (omega (arith, v'.if-left-eq0.true))) s.invariant.2 }
       ]
     ]

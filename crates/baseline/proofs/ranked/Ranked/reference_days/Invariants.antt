@@ -9,4 +9,4 @@ invariant-search g l =
     let k = l.self.method in
     (l.count ≤ k.n)
     × (length l.days ≡ 10)
-    × (take l.count l.days ++ ahead m k.class l.customer l.hour (k.n - l.count) l.left l.past ≡ reference_days m k l.customer l.day l.hour)
+    × (take l.count l.days ++ ahead m k.class l.asked.customer l.asked.hour (k.n - l.count) l.left l.past ≡ reference_days m k l.asked.customer l.asked.day l.asked.hour)
