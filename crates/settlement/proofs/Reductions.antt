@@ -1,18 +1,17 @@
 -- How the reduction grows with the count of customers.
-use Rattle.std.proofs.Common.{◌≡◌, ℕ, zero, suc, ◌+◌, ◌<◌, ◌≤◌, Bool, true, false, ℤ, ◌+ℤ◌, Ok, Err, Result, sym, ap, inl, inr, add-one, arith}
+use Rattle.std.proofs.Common.{◌≡◌, ℕ, zero, suc, ◌+◌, ◌<◌, ◌≤◌, Bool, true, false, ℤ, Ok, Err, Result, sym, ap, inl, inr, add-one, arith}
 use Rattle.std.proofs.lemmas.Bool.{cases_eq, cases_Bool}
-use Rattle.refusal.specs.declared.Cause.{Cause}
 use Rattle.refusal.specs.declared.NoFigure.{NoFigure}
 use Rattle.baseline.specs.Meaning.{SourceMeaning}
-use Rattle.settlement.specs.Reduction.{cut, reduction}
+use Rattle.settlement.specs.Reduction.{cut, more, reduction}
 
 module _ (m : SourceMeaning) (asked : ℕ → Bool) (day hour : ℕ) where
   abbrev sum : ℕ → Result ℤ NoFigure
   sum n = reduction m asked day hour n
 
   -- one asked customer more
-  pub reduction_adds : (c : ℕ) (s x t : ℤ) → asked c ≡ true → sum c ≡ Ok s → Ok x ≡ cut m c day hour → s +ℤ x ≡ t → sum (c + 1) ≡ Ok t
-  reduction_adds c s x t a e k total = rw add-one (simp (a, e, ← k, total))
+  pub reduction_adds : (c : ℕ) (s x t : ℤ) → asked c ≡ true → sum c ≡ Ok s → Ok x ≡ more (Ok s) c (cut m c day hour) → x ≡ t → sum (c + 1) ≡ Ok t
+  reduction_adds c s x t a e k same = rw add-one (simp (a, e, ← k, same))
 
   -- a customer that is not asked
   pub reduction_skips : (c : ℕ) → asked c ≡ false → sum (c + 1) ≡ sum c
@@ -29,10 +28,8 @@ module _ (m : SourceMeaning) (asked : ℕ → Bool) (day hour : ℕ) where
       ]
 
   -- the first customer with a cause
-  pub reduction_ends : (c n : ℕ) (s : ℤ) (e : Cause) → c < n → asked c ≡ true → sum c ≡ Ok s → Err e ≡ cut m c day hour
-      → sum n ≡ Err (record { customer = c; cause = e })
-  reduction_ends c n s e h a t k =
-      cause_stays (record { customer = c; cause = e }) (suc c) n h (simp (a, t, ← k))
+  pub reduction_ends : (c n : ℕ) (s : ℤ) (e : NoFigure) → c < n → asked c ≡ true → sum c ≡ Ok s → Err e ≡ more (Ok s) c (cut m c day hour) → sum n ≡ Err e
+  reduction_ends c n s e h a t k = cause_stays e (suc c) n h (simp (a, t, ← k))
 
   -- customers of whom none is asked
   pub reduction_rest : (i n : ℕ) → i ≤ n → ((k : ℕ) → i ≤ k → k < n → asked k ≡ false) → sum n ≡ sum i

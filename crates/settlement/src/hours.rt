@@ -27,14 +27,12 @@ pub fn takes_order(kind: Kind, class: DayClass, month: u32, hour: u32) -> bool
     match kind {
         Kind::Standard | Kind::SmallMedium
             if class == DayClass::Workday
-                && hour >= WORKDAY_FROM
-                && hour <= WORKDAY_TO
+                && (WORKDAY_FROM..=WORKDAY_TO).contains(&hour)
                 && hour != MIDDAY => true,
         Kind::StandardHoliday | Kind::SmallMediumHoliday
             if class == DayClass::Holiday
-                && (month >= 3 && month <= 5 || month >= 9 && month <= 11)
-                && hour >= HOLIDAY_FROM
-                && hour <= HOLIDAY_TO => true,
+                && matches!(month, 3..=5 | 9..=11)
+                && (HOLIDAY_FROM..=HOLIDAY_TO).contains(&hour) => true,
         _ => false,
     }
 }

@@ -1,20 +1,24 @@
 // The kinds of resources by their numbers.
-ghost use Rattle.std.specs.Prelude.{◌≡◌};
-ghost use Rattle.settlement.specs.Kinds.{kind_numbered};
+ghost use Rattle.settlement.specs.Kinds.{KindNumbered};
 
 use crate::terms::Kind;
 
-impl Kind {
-    // The kind of a number, or none if no kind has it.
-    pub fn numbered(n: u32) -> Option<Kind>
-        ensures value { result ≡ kind_numbered n }
-    {
+// A number that no kind has.
+#[derive(Clone, Copy, PartialEq, Eq, Debug)]
+pub struct UnknownKind(pub u32);
+
+impl TryFrom<u32> for Kind {
+    type Error = UnknownKind;
+
+    ghost try_from_gives = { KindNumbered };
+
+    fn try_from(n: u32) -> Result<Self, UnknownKind> {
         match n {
-            1 => Some(Kind::Standard),
-            2 => Some(Kind::SmallMedium),
-            3 => Some(Kind::StandardHoliday),
-            4 => Some(Kind::SmallMediumHoliday),
-            _ => None,
+            1 => Ok(Kind::Standard),
+            2 => Ok(Kind::SmallMedium),
+            3 => Ok(Kind::StandardHoliday),
+            4 => Ok(Kind::SmallMediumHoliday),
+            _ => Err(UnknownKind(n)),
         }
     }
 }

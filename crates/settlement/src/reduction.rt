@@ -1,10 +1,13 @@
 // The reduction of load over the customers of a resource.
-ghost use Rattle.std.specs.Prelude.{◌≡◌, ◌<◌, true, IfOk, ◌==◌};
+ghost use Rattle.std.specs.Prelude.{◌≡◌, ◌+◌, ◌*◌, ◌<◌, IfOk, ◌==◌};
 ghost use Rattle.settlement.specs.Bounds.{Within};
-ghost use Rattle.settlement.specs.Reduction.{cut, reduction, takes_part};
+ghost use Rattle.settlement.specs.Reduction.{cut, more};
+ghost use Rattle.settlement.specs.Settle.{mandatory_reduction, scheduled_reduction};
 
-use crate::terms::Slot;
+use crate::bounds::Reduction;
+use crate::terms::{ResourceHour, Slot};
 use baseline::source::BaselineSource;
+use load::places::CustomerHour;
 use refusal::{Cause, NoFigure};
 
 // The mark of a customer that takes part.
@@ -17,60 +20,69 @@ fn takes_part(mark: u8) -> bool
     mark == TAKES_PART
 }
 
-// By how much one customer's load lies below the baseline, in Wh; the baseline is asked first.
-fn cut_of<S: BaselineSource>(source: &S, customer: u32, slot: Slot) -> Result<i64, Cause>
-    ensures value { result ≡ cut (S.meaning source.now) customer slot.day slot.hour }
-    ensures bounded { IfOk result (λ z. Within 60000000 z × (customer < 16)) }
+// By how much a customer's load lies below the baseline, in Wh; the baseline is asked first.
+fn cut_of<S: BaselineSource>(source: &S, asked: CustomerHour) -> Result<i64, Cause>
+    ensures value { result ≡ cut (S.meaning source.now) asked.customer asked.day asked.hour }
+    ensures bounded { IfOk result (λ z. Within 60000000 z × (asked.customer < 16)) }
 {
-    let baseline = source.baseline(customer, slot.day, slot.hour)?;
-    let Some(load) = source.metered(customer, slot.day, slot.hour) else {
-        return Err(Cause::MissingLoad);
-    };
+    let baseline = source.baseline(asked)?;
+    let load = source.metered(asked).ok_or(Cause::MissingLoad)?;
     Ok(i64::from(baseline) - i64::from(load))
 }
 
-// The cuts of the customers below a count whose mark is 1, added up, or the first of them with a cause.
-pub(crate) fn scheduled_reduction<S: BaselineSource>(
+// A sum so far, and the cut of one customer more.
+fn added<S: BaselineSource>(
+    sum: i64,
     source: &S,
-    marks: &[u8],
-    customers: u32,
     slot: Slot,
+    customer: u32,
 ) -> Result<i64, NoFigure>
-    ensures value { result ≡ reduction (S.meaning source.now) (takes_part marks.now) slot.day slot.hour customers }
-    ensures bounded { IfOk result (λ z. Within 960000000 z) }
+    requires { Within (60000000 * customer) sum }
+    ensures value { result ≡ more (Ok sum) customer (cut (S.meaning source.now) customer slot.day slot.hour) }
+    ensures bounded { IfOk result (λ z. Within (60000000 * (customer + 1)) z × (customer < 16)) }
 {
-    let mut sum: i64 = 0;
-    for (place, mark) in marks.iter().enumerate() {
-        if place >= customers as usize {
-            break;
-        }
-        if !takes_part(*mark) {
-            continue;
-        }
-        let customer = place as u32;
-        match cut_of(source, customer, slot) {
-            Ok(reduced) => sum += reduced,
-            Err(cause) => return Err(NoFigure { customer, cause }),
-        }
-    }
-    Ok(sum)
+    let cut = cut_of(source, slot.of(customer)).map_err(|cause| NoFigure { customer, cause })?;
+    Ok(sum + cut)
 }
 
-// The cuts of all customers below a count, added up, or the first of them with a cause.
-pub(crate) fn mandatory_reduction<S: BaselineSource>(
-    source: &S,
-    customers: u32,
-    slot: Slot,
-) -> Result<i64, NoFigure>
-    ensures value { result ≡ reduction (S.meaning source.now) (λ _. true) slot.day slot.hour customers }
-    ensures bounded { IfOk result (λ z. Within 960000000 z) }
-{
-    let mut sum: i64 = 0;
-    for customer in 0..customers {
-        match cut_of(source, customer, slot) {
-            Ok(reduced) => sum += reduced,
-            Err(cause) => return Err(NoFigure { customer, cause }),
+// Stays: two functions, as the scheduled one goes over the marks by their places; both add by `added`.
+impl ResourceHour {
+    // SR: the cuts of the customers that take part, added up, or the first of them with a cause; without a plan nothing is asked.
+    pub(crate) fn scheduled_reduction<S: BaselineSource>(
+        &self,
+        source: &S,
+        marks: &[u8],
+    ) -> Result<Reduction, NoFigure>
+        ensures value { result ≡ scheduled_reduction (S.meaning source.now) marks.now self.now.portfolio self.now.slot self.now.terms }
+    {
+        if self.terms.plan == 0 {
+            return Ok(Reduction { wh: 0 });
         }
+        let marks = &marks[..marks.len().min(self.portfolio.customers as usize)];
+        let mut sum = 0;
+        for (place, mark) in marks.iter().enumerate() {
+            if !takes_part(*mark) {
+                continue;
+            }
+            sum = added(sum, source, self.slot, place as u32)?;
+        }
+        Ok(Reduction { wh: sum })
     }
-    Ok(sum)
+
+    // DR: the cuts of all customers, added up, or the first of them with a cause; without an order nothing is asked.
+    pub(crate) fn mandatory_reduction<S: BaselineSource>(
+        &self,
+        source: &S,
+    ) -> Result<Reduction, NoFigure>
+        ensures value { result ≡ mandatory_reduction (S.meaning source.now) self.now.portfolio self.now.slot self.now.terms }
+    {
+        if self.terms.order == 0 {
+            return Ok(Reduction { wh: 0 });
+        }
+        let mut sum = 0;
+        for customer in 0..self.portfolio.customers {
+            sum = added(sum, source, self.slot, customer)?;
+        }
+        Ok(Reduction { wh: sum })
+    }
 }

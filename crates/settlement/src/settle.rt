@@ -1,14 +1,12 @@
 // Settling a resource's hour over a scheduled and a mandatory source.
-ghost use Rattle.std.specs.Prelude.{◌≡◌, IfOk, None};
-ghost use Rattle.settlement.specs.Bounds.{Limited, Within};
-ghost use Rattle.settlement.specs.Settle.{mandatory_reduction, scheduled_reduction, settled, terms_refusal};
+ghost use Rattle.std.specs.Prelude.{◌≡◌, MatchResult, None, Some};
+ghost use Rattle.settlement.specs.Settle.{settled, terms_refusal};
 
-use crate::figures::line_of;
+use crate::bounds::LimitedTerms;
 use crate::hours::takes_order;
-use crate::reduction::{mandatory_reduction, scheduled_reduction};
-use crate::terms::{Line, Portfolio, Slot, Terms};
+use crate::terms::{Line, ResourceHour};
 use baseline::source::BaselineSource;
-use refusal::{NoFigure, Refusal};
+use refusal::Refusal;
 
 // The greatest plan, in Wh.
 const MAX_PLAN: u32 = 640_000_000;
@@ -19,82 +17,53 @@ const MAX_ORDER: u32 = 500_000_000;
 // The greatest price, in hundredths of a won per kWh.
 const MAX_PRICE: u32 = 200_000;
 
-// What the terms are refused for by themselves.
-fn terms_refusal(portfolio: Portfolio, slot: Slot, terms: Terms) -> Option<Refusal>
-    ensures value { result ≡ terms_refusal portfolio slot terms }
-    ensures bounded { result ≡ None → Limited terms }
-{
-    if terms.plan == 0 && terms.order == 0 {
-        return Some(Refusal::NeitherPlanNorOrder);
-    }
-    if terms.plan > MAX_PLAN
-        || terms.order > MAX_ORDER
-        || terms.smp > MAX_PRICE
-        || terms.mgp > MAX_PRICE
+impl ResourceHour {
+    // The terms, or what they are refused for by themselves.
+    fn admitted(&self) -> Result<LimitedTerms, Refusal>
+        ensures value { MatchResult result
+            (λ admitted. (terms_refusal self.now.portfolio self.now.slot self.now.terms ≡ None) × (admitted.terms ≡ self.now.terms))
+            (λ refusal. terms_refusal self.now.portfolio self.now.slot self.now.terms ≡ Some refusal) }
     {
-        return Some(Refusal::AboveLimit);
+        let ResourceHour {
+            portfolio,
+            slot,
+            terms,
+        } = *self;
+        if terms.plan == 0 && terms.order == 0 {
+            return Err(Refusal::NeitherPlanNorOrder);
+        }
+        if terms.plan > MAX_PLAN
+            || terms.order > MAX_ORDER
+            || terms.smp > MAX_PRICE
+            || terms.mgp > MAX_PRICE
+        {
+            return Err(Refusal::AboveLimit);
+        }
+        if (terms.emergency || terms.test) && terms.order == 0 {
+            return Err(Refusal::MarkWithoutOrder);
+        }
+        if terms.order != 0 && !takes_order(portfolio.kind, slot.class, slot.month, slot.hour) {
+            return Err(Refusal::OutsideOrderHours);
+        }
+        Ok(LimitedTerms { terms })
     }
-    if (terms.emergency || terms.test) && terms.order == 0 {
-        return Some(Refusal::MarkWithoutOrder);
-    }
-    if terms.order != 0 && !takes_order(portfolio.kind, slot.class, slot.month, slot.hour) {
-        return Some(Refusal::OutsideOrderHours);
-    }
-    None
-}
 
-// SR, over the customers that take part; without a plan nothing is asked.
-fn scheduled_of<S: BaselineSource>(
-    source: &S,
-    marks: &[u8],
-    portfolio: Portfolio,
-    slot: Slot,
-    terms: Terms,
-) -> Result<i64, NoFigure>
-    ensures value { result ≡ scheduled_reduction (S.meaning source.now) marks.now portfolio slot terms }
-    ensures bounded { IfOk result (λ z. Within 960000000 z) }
-{
-    if terms.plan == 0 {
-        return Ok(0);
-    }
-    scheduled_reduction(source, marks, portfolio.customers, slot)
-}
-
-// DR, over all customers; without an order nothing is asked.
-fn mandatory_of<M: BaselineSource>(
-    source: &M,
-    portfolio: Portfolio,
-    slot: Slot,
-    terms: Terms,
-) -> Result<i64, NoFigure>
-    ensures value { result ≡ mandatory_reduction (M.meaning source.now) portfolio slot terms }
-    ensures bounded { IfOk result (λ z. Within 960000000 z) }
-{
-    if terms.order == 0 {
-        return Ok(0);
-    }
-    mandatory_reduction(source, portfolio.customers, slot)
-}
-
-// The line of a resource's hour, or the first reason to refuse it.
-pub fn settle_line<S: BaselineSource, M: BaselineSource>(
-    scheduled: &S,
-    mandatory: &M,
-    marks: &[u8],
-    portfolio: Portfolio,
-    slot: Slot,
-    terms: Terms,
-) -> Result<Line, Refusal>
-    ensures value { result ≡ settled (S.BaselineSource.meaning scheduled.now) (M.BaselineSource.meaning mandatory.now) marks.now portfolio slot terms }
-{
-    match terms_refusal(portfolio, slot, terms) {
-        Some(refusal) => Err(refusal),
-        None => match scheduled_of(scheduled, marks, portfolio, slot, terms) {
-            Err(lacking) => Err(Refusal::Scheduled(lacking)),
-            Ok(sr) => match mandatory_of(mandatory, portfolio, slot, terms) {
-                Err(lacking) => Err(Refusal::Mandatory(lacking)),
-                Ok(dr) => Ok(line_of(terms, sr, dr)),
-            },
-        },
+    // The line of a resource's hour, or the first reason to refuse it.
+    pub fn settle<S: BaselineSource, M: BaselineSource>(
+        &self,
+        scheduled: &S,
+        mandatory: &M,
+        marks: &[u8],
+    ) -> Result<Line, Refusal>
+        ensures value { result ≡ settled (S.BaselineSource.meaning scheduled.now) (M.BaselineSource.meaning mandatory.now) marks.now self.now.portfolio self.now.slot self.now.terms }
+    {
+        let terms = self.admitted()?;
+        let sr = self
+            .scheduled_reduction(scheduled, marks)
+            .map_err(Refusal::Scheduled)?;
+        let dr = self
+            .mandatory_reduction(mandatory)
+            .map_err(Refusal::Mandatory)?;
+        Ok(terms.line(sr, dr))
     }
 }

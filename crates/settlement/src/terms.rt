@@ -1,5 +1,8 @@
 // The plain values of a settling.
+ghost use Rattle.std.specs.Prelude.{◌≡◌};
+
 use load::loads::DayClass;
+use load::places::CustomerHour;
 
 // What kind of resource it is.
 #[derive(Clone, Copy, PartialEq, Eq, Debug)]
@@ -26,6 +29,21 @@ pub struct Slot {
     pub hour: u32,
 }
 
+impl Slot {
+    // The hour of a customer that a source is asked about.
+    pub fn of(self, customer: u32) -> CustomerHour
+        ensures customer { result.customer ≡ customer }
+        ensures day { result.day ≡ self.day }
+        ensures hour { result.hour ≡ self.hour }
+    {
+        CustomerHour {
+            customer,
+            day: self.day,
+            hour: self.hour,
+        }
+    }
+}
+
 // What an hour is settled by: plan and order in Wh, 0 for none; SMP and MGP in hundredths of a won per kWh.
 #[derive(Clone, Copy)]
 pub struct Terms {
@@ -35,6 +53,14 @@ pub struct Terms {
     pub test: bool,
     pub smp: u32,
     pub mgp: u32,
+}
+
+// One hour of one resource, and what it is settled by.
+#[derive(Clone, Copy)]
+pub struct ResourceHour {
+    pub portfolio: Portfolio,
+    pub slot: Slot,
+    pub terms: Terms,
 }
 
 // The figures of one resource in one hour: SR, DR, DLR and SLR in Wh, pay and fine in won.
