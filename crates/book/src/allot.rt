@@ -13,6 +13,7 @@ ghost use Rattle.book.specs.Seen.{seen, named_by, fresh, granted_or, back_or};
 use crate::book::Book;
 use crate::energies::Energies;
 use crate::hour::{Hour, Step, step_at};
+use crate::month_hour::{HourNumber, MonthHour};
 use crate::rows::{clear_row, put_row};
 use crate::slip::{RefusedSlip, Slip};
 use refusal::Refusal;
@@ -51,12 +52,11 @@ fn charge_row(paid: i64, fined: i64, purchases: [u32; 8]) -> [BuyerLine; 8]
 
 impl Book {
     // Steps an hour and answers its energies, or refuses and leaves it.
-    pub(crate) fn step(&mut self, h: u32, call: Step) -> Result<Energies, Refusal>
-        requires { h < 744 }
-        ensures answer { result ≡ step_answer (step_refusal call (slice_index_or self.old.hours h Hour.Blank)) (slice_index_or self.old.hours h Hour.Blank) }
-        ensures book { (lines : List ResourceLine) (charges : List BuyerLine) → seen self.new lines charges ≡ with_hour (seen self.old lines charges) h (hour_after call (slice_index_or self.old.hours h Hour.Blank)) }
+    pub(crate) fn step(&mut self, h: HourNumber, call: Step) -> Result<Energies, Refusal>
+        ensures answer { result ≡ step_answer (step_refusal call (slice_index_or self.old.hours h.number Hour.Blank)) (slice_index_or self.old.hours h.number Hour.Blank) }
+        ensures book { (lines : List ResourceLine) (charges : List BuyerLine) → seen self.new lines charges ≡ with_hour (seen self.old lines charges) h.number (hour_after call (slice_index_or self.old.hours h.number Hour.Blank)) }
     {
-        step_at(&mut self.hours, h as usize, call)
+        step_at(&mut self.hours, h.number as usize, call)
     }
 
     // What an hour's lines are paid and fined together.
@@ -88,22 +88,15 @@ impl Book {
         &mut self,
         lines: &[ResourceLine],
         charges: &mut [BuyerLine],
-        day: u32,
-        hour: u32,
+        at: MonthHour,
     ) -> Result<(), Refusal>
-        ensures answer { result ≡ granted_or (refusal (allot day hour) (seen self.old lines.now charges.old)) tt }
-        ensures book { seen self.new lines.now charges.new ≡ (step (allot day hour) (seen self.old lines.now charges.old)).1 }
+        ensures answer { result ≡ granted_or (refusal (allot at.day at.hour) (seen self.old lines.now charges.old)) tt }
+        ensures book { seen self.new lines.now charges.new ≡ (step (allot at.day at.hour) (seen self.old lines.now charges.old)).1 }
     {
-        match self.hour_place(lines, charges, day, hour) {
-            Ok(h) => match self.step(h, Step::Allot) {
-                Ok(energies) => {
-                    self.charge_hour(lines, charges, h, energies);
-                    Ok(())
-                }
-                Err(reason) => Err(reason),
-            },
-            Err(refusal) => Err(refusal),
-        }
+        let h = self.hour_place(lines, charges, at)?;
+        let energies = self.step(h, Step::Allot)?;
+        self.charge_hour(lines, charges, h.number, energies);
+        Ok(())
     }
 
     // Reopens an allotted hour, and hands out the slip that finishing it takes.
@@ -111,23 +104,16 @@ impl Book {
         &mut self,
         lines: &[ResourceLine],
         charges: &mut [BuyerLine],
-        day: u32,
-        hour: u32,
+        at: MonthHour,
     ) -> Result<Slip, Refusal>
-        ensures answer { result ≡ granted_or (refusal (reopen day hour) (seen self.old lines.now charges.old)) (fresh self.old.register.number day hour) }
-        ensures book { seen self.new lines.now charges.new ≡ (step (reopen day hour) (seen self.old lines.now charges.old)).1 }
+        ensures answer { result ≡ granted_or (refusal (reopen at.day at.hour) (seen self.old lines.now charges.old)) (fresh self.old.register.number at.day at.hour) }
+        ensures book { seen self.new lines.now charges.new ≡ (step (reopen at.day at.hour) (seen self.old lines.now charges.old)).1 }
         ensures finishes { IfOk result (λ slip. refusal (finish (named_by slip)) (seen self.new lines.now charges.new) ≡ None) }
     {
-        match self.hour_place(lines, charges, day, hour) {
-            Ok(h) => match self.step(h, Step::Reopen) {
-                Ok(_) => {
-                    clear_row(charges, self.register.buyers, h);
-                    Ok(Slip::new(self.register.number, day, hour))
-                }
-                Err(refusal) => Err(refusal),
-            },
-            Err(refusal) => Err(refusal),
-        }
+        let h = self.hour_place(lines, charges, at)?;
+        self.step(h, Step::Reopen)?;
+        clear_row(charges, self.register.buyers, h.number);
+        Ok(Slip::new(self.register.number, at))
     }
 
     // Finishes the hour that a slip was handed out for, and spends the slip; a refusal hands it back.
@@ -144,7 +130,7 @@ impl Book {
             Ok(h) => match self.step(h, Step::Finish) {
                 Ok(energies) => {
                     slip.spend();
-                    self.charge_hour(lines, charges, h, energies);
+                    self.charge_hour(lines, charges, h.number, energies);
                     Ok(())
                 }
                 Err(refusal) => Err(RefusedSlip { refusal, slip }),

@@ -26,10 +26,7 @@ impl<E: Copy> Hour<E> {
     pub(crate) fn is_allotted(&self) -> bool
         ensures value { result ≡ is_allotted self.now }
     {
-        match *self {
-            Hour::Allotted(_) => true,
-            Hour::Blank | Hour::Told(_) | Hour::Correcting(_) => false,
-        }
+        matches!(self, Hour::Allotted(_))
     }
 
     // The hour with other energies, otherwise as it was.

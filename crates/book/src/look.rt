@@ -14,10 +14,7 @@ use table::lines::{BuyerLine, ResourceLine};
 fn hour_of(hours: &[Hour<Energies>], hour: u32) -> Hour<Energies>
     ensures value { result ≡ slice_index_or hours.now hour Blank }
 {
-    if (hour as usize) < hours.len() {
-        return hours[hour as usize];
-    }
-    Hour::Blank
+    hours.get(hour as usize).copied().unwrap_or(Hour::Blank)
 }
 
 impl Book {
@@ -33,26 +30,22 @@ impl Book {
     pub fn holds_allotted(&self, hour: u32) -> bool
         ensures value { result ≡ is_allotted (slice_index_or self.now.hours hour Blank) }
     {
-        match hour_of(&self.hours, hour) {
-            Hour::Allotted(_) => true,
-            Hour::Blank | Hour::Told(_) | Hour::Correcting(_) => false,
-        }
+        hour_of(&self.hours, hour).is_allotted()
     }
 
     // Whether the book holds an hour in correction.
     pub fn holds_correcting(&self, hour: u32) -> bool
         ensures value { result ≡ is_correcting (slice_index_or self.now.hours hour Blank) }
     {
-        match hour_of(&self.hours, hour) {
-            Hour::Correcting(_) => true,
-            Hour::Blank | Hour::Told(_) | Hour::Allotted(_) => false,
-        }
+        matches!(hour_of(&self.hours, hour), Hour::Correcting(_))
     }
 
     // Whether a list is shorter than the measure.
     pub fn lacks_places(&self, lines: &[ResourceLine], charges: &[BuyerLine]) -> bool
         ensures value { result ≡ short_for self.now.register lines.now charges.now }
     {
-        self.short(lines, charges)
+        let hours = self.register.days as usize * 24;
+        lines.len() < hours * self.register.enrolled as usize
+            || charges.len() < hours * self.register.buyers as usize
     }
 }

@@ -1,34 +1,28 @@
 // The hour that a call names, and whether the call may go on with it.
-ghost use Rattle.std.specs.Prelude.{◌≡◌, ◌<◌, ◌≤◌, IfOk};
-ghost use Rattle.refusal.specs.Tests.{first_of};
-ghost use Rattle.book.specs.State.{hours_of, in_month, place, short_for};
+ghost use Rattle.std.specs.Prelude.{◌≡◌, not};
+ghost use Rattle.refusal.specs.Tests.{refused_if, first_of};
+ghost use Rattle.book.specs.State.{in_month, place};
 ghost use Rattle.book.specs.Calls.{place_tests, resource_tests, hour_tests, line_tests, slip_tests};
-ghost use Rattle.book.specs.Seen.{seen, named_by, granted_or};
+ghost use Rattle.book.specs.Seen.{seen, named_by, granted_or, number_or};
 
 use crate::book::Book;
+use crate::month_hour::{HourNumber, MonthHour};
 use crate::slip::Slip;
 use refusal::Refusal;
 use table::lines::{BuyerLine, ResourceLine};
 
-// The number of an hour of the month.
-fn place_of(day: u32, hour: u32) -> u32
-    requires day_most { day ≤ 31 }
-    requires day_least { 1 ≤ day }
-    requires hour_most { hour ≤ 24 }
-    requires hour_least { 1 ≤ hour }
-    ensures value { result ≡ place day hour }
-{
-    (day - 1) * 24 + (hour - 1)
-}
-
 impl Book {
-    // Whether a list is shorter than the measure.
-    pub(crate) fn short(&self, lines: &[ResourceLine], charges: &[BuyerLine]) -> bool
-        ensures value { result ≡ short_for self.now.register lines.now charges.now }
+    // The number of an hour, refused unless it is one of the month.
+    fn number_of(&self, at: MonthHour, refusal: Refusal) -> Result<HourNumber, Refusal>
+        ensures value { number_or result ≡ granted_or (refused_if (not (in_month self.now.register at.day at.hour)) refusal) (place at.day at.hour) }
     {
-        let hours = self.register.days as usize * 24;
-        lines.len() < hours * self.register.enrolled as usize
-            || charges.len() < hours * self.register.buyers as usize
+        let MonthHour { day, hour } = at;
+        if day < 1 || day > self.register.days || hour < 1 || hour > 24 {
+            return Err(refusal);
+        }
+        Ok(HourNumber {
+            number: (day - 1) * 24 + (hour - 1),
+        })
     }
 
     // The number of the hour that a call names.
@@ -36,19 +30,14 @@ impl Book {
         &self,
         lines: &[ResourceLine],
         charges: &[BuyerLine],
-        day: u32,
-        hour: u32,
-    ) -> Result<u32, Refusal>
-        ensures value { result ≡ granted_or (first_of (place_tests (seen self.now lines.now charges.now) day hour)) (place day hour) }
-        ensures bounded { IfOk result (λ h. h < hours_of self.now.register) }
+        at: MonthHour,
+    ) -> Result<HourNumber, Refusal>
+        ensures value { number_or result ≡ granted_or (first_of (place_tests (seen self.now lines.now charges.now) at.day at.hour)) (place at.day at.hour) }
     {
-        if self.short(lines, charges) {
+        if self.lacks_places(lines, charges) {
             return Err(Refusal::ShortLists);
         }
-        if day < 1 || day > self.register.days || hour < 1 || hour > 24 {
-            return Err(Refusal::NoSuchHour);
-        }
-        Ok(place_of(day, hour))
+        self.number_of(at, Refusal::NoSuchHour)
     }
 
     // The number of the hour of a slip of this book.
@@ -57,20 +46,16 @@ impl Book {
         lines: &[ResourceLine],
         charges: &[BuyerLine],
         slip: &Slip,
-    ) -> Result<u32, Refusal>
-        ensures value { result ≡ granted_or (first_of (slip_tests (seen self.now lines.now charges.now) (named_by slip.now))) (place slip.now.day slip.now.hour) }
-        ensures bounded { IfOk result (λ h. h < hours_of self.now.register) }
+    ) -> Result<HourNumber, Refusal>
+        ensures value { number_or result ≡ granted_or (first_of (slip_tests (seen self.now lines.now charges.now) (named_by slip.now))) (place slip.now.at.day slip.now.at.hour) }
     {
-        if self.short(lines, charges) {
+        if self.lacks_places(lines, charges) {
             return Err(Refusal::ShortLists);
         }
         if slip.number != self.register.number {
             return Err(Refusal::WrongSlip);
         }
-        if slip.day < 1 || slip.day > self.register.days || slip.hour < 1 || slip.hour > 24 {
-            return Err(Refusal::WrongSlip);
-        }
-        Ok(place_of(slip.day, slip.hour))
+        self.number_of(slip.at, Refusal::WrongSlip)
     }
 
     // The number of the hour whose energies may be told.
@@ -78,14 +63,12 @@ impl Book {
         &self,
         lines: &[ResourceLine],
         charges: &[BuyerLine],
-        day: u32,
-        hour: u32,
-    ) -> Result<u32, Refusal>
-        ensures value { result ≡ granted_or (first_of (hour_tests (seen self.now lines.now charges.now) day hour)) (place day hour) }
-        ensures bounded { IfOk result (λ h. h < hours_of self.now.register) }
+        at: MonthHour,
+    ) -> Result<HourNumber, Refusal>
+        ensures value { number_or result ≡ granted_or (first_of (hour_tests (seen self.now lines.now charges.now) at.day at.hour)) (place at.day at.hour) }
     {
-        let h = self.hour_place(lines, charges, day, hour)?;
-        if self.hours[h as usize].is_allotted() {
+        let h = self.hour_place(lines, charges, at)?;
+        if self.hours[h.number as usize].is_allotted() {
             return Err(Refusal::HourAllotted);
         }
         Ok(h)
@@ -97,13 +80,11 @@ impl Book {
         lines: &[ResourceLine],
         charges: &[BuyerLine],
         resource: u32,
-        day: u32,
-        hour: u32,
-    ) -> Result<u32, Refusal>
-        ensures value { result ≡ granted_or (first_of (resource_tests (seen self.now lines.now charges.now) resource day hour)) (place day hour) }
-        ensures bounded { IfOk result (λ h. h < hours_of self.now.register) }
+        at: MonthHour,
+    ) -> Result<HourNumber, Refusal>
+        ensures value { number_or result ≡ granted_or (first_of (resource_tests (seen self.now lines.now charges.now) resource at.day at.hour)) (place at.day at.hour) }
     {
-        let h = self.hour_place(lines, charges, day, hour)?;
+        let h = self.hour_place(lines, charges, at)?;
         if resource >= self.register.enrolled {
             return Err(Refusal::NoSuchResource);
         }
@@ -116,14 +97,12 @@ impl Book {
         lines: &[ResourceLine],
         charges: &[BuyerLine],
         resource: u32,
-        day: u32,
-        hour: u32,
-    ) -> Result<u32, Refusal>
-        ensures value { result ≡ granted_or (first_of (line_tests (seen self.now lines.now charges.now) resource day hour)) (place day hour) }
-        ensures bounded { IfOk result (λ h. h < hours_of self.now.register) }
+        at: MonthHour,
+    ) -> Result<HourNumber, Refusal>
+        ensures value { number_or result ≡ granted_or (first_of (line_tests (seen self.now lines.now charges.now) resource at.day at.hour)) (place at.day at.hour) }
     {
-        let h = self.resource_place(lines, charges, resource, day, hour)?;
-        if self.hours[h as usize].is_allotted() {
+        let h = self.resource_place(lines, charges, resource, at)?;
+        if self.hours[h.number as usize].is_allotted() {
             return Err(Refusal::HourAllotted);
         }
         Ok(h)

@@ -4,6 +4,7 @@ ghost use Rattle.book.specs.Readings.{reading_of, line_read, charge_read};
 ghost use Rattle.book.specs.Seen.{seen};
 
 use crate::book::Book;
+use crate::month_hour::MonthHour;
 use refusal::Refusal;
 use settlement::terms::Line;
 use table::lines::{BuyerLine, ResourceLine};
@@ -22,19 +23,21 @@ pub struct LineReading {
     pub fined: u32,
 }
 
-// What a line says; plan pay and order pay are paid together.
-fn reading_of(line: Line) -> LineReading
-    ensures value { result ≡ reading_of line }
-{
-    LineReading {
-        plan: line.plan,
-        order: line.order,
-        sr: line.sr,
-        dr: line.dr,
-        dlr: line.dlr,
-        slr: line.slr,
-        paid: i64::from(line.plan_pay) + i64::from(line.order_pay),
-        fined: line.fined,
+// Plan pay and order pay are paid together.
+impl From<Line> for LineReading {
+    ghost from_gives = { λ line reading. reading ≡ reading_of line };
+
+    fn from(line: Line) -> LineReading {
+        LineReading {
+            plan: line.plan,
+            order: line.order,
+            sr: line.sr,
+            dr: line.dr,
+            dlr: line.dlr,
+            slr: line.slr,
+            paid: i64::from(line.plan_pay) + i64::from(line.order_pay),
+            fined: line.fined,
+        }
     }
 }
 
@@ -45,17 +48,14 @@ impl Book {
         lines: &[ResourceLine],
         charges: &[BuyerLine],
         resource: u32,
-        day: u32,
-        hour: u32,
+        at: MonthHour,
     ) -> Result<LineReading, Refusal>
-        ensures value { result ≡ line_read (seen self.now lines.now charges.now) resource day hour }
+        ensures value { result ≡ line_read (seen self.now lines.now charges.now) resource at.day at.hour }
     {
-        match self.resource_place(lines, charges, resource, day, hour) {
-            Ok(h) => match line_at(lines, self.register.enrolled, h, resource) {
-                None => Err(Refusal::NoLine),
-                Some(line) => Ok(reading_of(line)),
-            },
-            Err(refusal) => Err(refusal),
+        let h = self.resource_place(lines, charges, resource, at)?;
+        match line_at(lines, self.register.enrolled, h.number, resource) {
+            Some(line) => Ok(LineReading::from(line)),
+            None => Err(Refusal::NoLine),
         }
     }
 
@@ -65,22 +65,17 @@ impl Book {
         lines: &[ResourceLine],
         charges: &[BuyerLine],
         buyer: u32,
-        day: u32,
-        hour: u32,
+        at: MonthHour,
     ) -> Result<BuyerLine, Refusal>
-        ensures value { result ≡ charge_read (seen self.now lines.now charges.now) buyer day hour }
+        ensures value { result ≡ charge_read (seen self.now lines.now charges.now) buyer at.day at.hour }
     {
-        match self.hour_place(lines, charges, day, hour) {
-            Ok(h) => {
-                if buyer >= self.register.buyers {
-                    return Err(Refusal::NoSuchBuyer);
-                }
-                if !self.hours[h as usize].is_allotted() {
-                    return Err(Refusal::HourNotAllotted);
-                }
-                Ok(line_at(charges, self.register.buyers, h, buyer))
-            }
-            Err(refusal) => Err(refusal),
+        let h = self.hour_place(lines, charges, at)?;
+        if buyer >= self.register.buyers {
+            return Err(Refusal::NoSuchBuyer);
         }
+        if !self.hours[h.number as usize].is_allotted() {
+            return Err(Refusal::HourNotAllotted);
+        }
+        Ok(line_at(charges, self.register.buyers, h.number, buyer))
     }
 }

@@ -92,7 +92,7 @@ impl Book {
         ensures answer { result ≡ reconciled (seen self.now lines.now charges.now) }
         ensures law { Lawful (seen self.now lines.now charges.now) result }
     {
-        if self.short(lines, charges) {
+        if self.lacks_places(lines, charges) {
             return Err(Refusal::ShortLists);
         }
         Ok(self.month_sums(lines, charges))

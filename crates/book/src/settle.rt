@@ -3,9 +3,10 @@ ghost use Rattle.std.specs.Prelude.{◌≡◌, ◌<◌, true};
 ghost use Rattle.book.specs.State.{in_month};
 ghost use Rattle.book.specs.Calls.{class_of, portfolio_of, slot_of, reckon, refusal, step};
 ghost use Rattle.book.specs.Calls.Call.{settle};
-ghost use Rattle.book.specs.Seen.{seen, granted_or};
+ghost use Rattle.book.specs.Seen.{seen, asked_by, granted_or};
 
 use crate::book::Book;
+use crate::month_hour::MonthHour;
 use crate::register::Resource;
 use crate::rows::put_line;
 use baseline::source::BaselineSource;
@@ -14,6 +15,17 @@ use refusal::Refusal;
 use settlement::settle::settle_line;
 use settlement::terms::{Line, Portfolio, Slot, Terms};
 use table::lines::{BuyerLine, ResourceLine};
+
+// The resource and its hour, the terms, the marks of the customers that take part, and the scheduled and the mandatory source.
+#[derive(Drop)]
+pub struct Settling<'a, S, M> {
+    pub resource: u32,
+    pub at: MonthHour,
+    pub terms: Terms,
+    pub marks: &'a [u8],
+    pub scheduled: &'a S,
+    pub mandatory: &'a M,
+}
 
 // The class of a day by its number.
 fn class_of(class: u8) -> DayClass
@@ -39,36 +51,37 @@ impl Resource {
 
 impl Book {
     // An hour of the month as the sources know it.
-    fn slot(&self, day: u32, hour: u32) -> Slot
-        requires { in_month self.now.register day hour ≡ true }
-        ensures value { result ≡ slot_of self.now.register day hour }
+    fn slot(&self, at: MonthHour) -> Slot
+        requires { in_month self.now.register at.day at.hour ≡ true }
+        ensures value { result ≡ slot_of self.now.register at.day at.hour }
     {
         Slot {
             month: self.register.month,
-            class: class_of(self.register.classes[day as usize - 1]),
-            day: self.register.first_day + (day - 1),
-            hour,
+            class: class_of(self.register.classes[at.day as usize - 1]),
+            day: self.register.first_day + (at.day - 1),
+            hour: at.hour,
         }
     }
 
     // The line of a settling, or why there is none.
     fn reckon<S: BaselineSource, M: BaselineSource>(
         &self,
-        resource: u32,
-        day: u32,
-        hour: u32,
-        terms: Terms,
-        marks: &[u8],
-        scheduled: &S,
-        mandatory: &M,
+        settling: &Settling<S, M>,
     ) -> Result<Line, Refusal>
-        requires hour_named { in_month self.now.register day hour ≡ true }
-        requires resource_known { resource < self.now.register.enrolled }
-        ensures value { result ≡ reckon self.now.register (record { resource = resource; day = day; hour = hour; terms = terms; marks = marks.now; scheduled = S.BaselineSource.meaning scheduled.now; mandatory = M.BaselineSource.meaning mandatory.now }) }
+        requires hour_named { in_month self.now.register settling.now.at.day settling.now.at.hour ≡ true }
+        requires resource_known { settling.now.resource < self.now.register.enrolled }
+        ensures value { result ≡ reckon self.now.register (asked_by S.BaselineSource.meaning M.BaselineSource.meaning settling.now) }
     {
-        let portfolio = self.register.resources[resource as usize].portfolio();
-        let slot = self.slot(day, hour);
-        settle_line(scheduled, mandatory, marks, portfolio, slot, terms)
+        let portfolio = self.register.resources[settling.resource as usize].portfolio();
+        let slot = self.slot(settling.at);
+        settle_line(
+            settling.scheduled,
+            settling.mandatory,
+            settling.marks,
+            portfolio,
+            slot,
+            settling.terms,
+        )
     }
 
     // Settles a resource's hour that is not allotted, over two sources; the line replaces the one before.
@@ -76,27 +89,15 @@ impl Book {
         &self,
         lines: &mut [ResourceLine],
         charges: &[BuyerLine],
-        resource: u32,
-        day: u32,
-        hour: u32,
-        terms: Terms,
-        marks: &[u8],
-        scheduled: &S,
-        mandatory: &M,
+        settling: &Settling<S, M>,
     ) -> Result<(), Refusal>
-        ensures answer { result ≡ granted_or (refusal (settle (record { resource = resource; day = day; hour = hour; terms = terms; marks = marks.now; scheduled = S.BaselineSource.meaning scheduled.now; mandatory = M.BaselineSource.meaning mandatory.now })) (seen self.now lines.old charges.now)) tt }
-        ensures book { seen self.now lines.new charges.now ≡ (step (settle (record { resource = resource; day = day; hour = hour; terms = terms; marks = marks.now; scheduled = S.BaselineSource.meaning scheduled.now; mandatory = M.BaselineSource.meaning mandatory.now })) (seen self.now lines.old charges.now)).1 }
+        ensures answer { result ≡ granted_or (refusal (settle (asked_by S.BaselineSource.meaning M.BaselineSource.meaning settling.now)) (seen self.now lines.old charges.now)) tt }
+        ensures book { seen self.now lines.new charges.now ≡ (step (settle (asked_by S.BaselineSource.meaning M.BaselineSource.meaning settling.now)) (seen self.now lines.old charges.now)).1 }
     {
-        match self.line_place(lines, charges, resource, day, hour) {
-            Ok(h) => match self.reckon(resource, day, hour, terms, marks, scheduled, mandatory) {
-                Ok(line) => {
-                    let width = self.register.enrolled;
-                    put_line(lines, width, h, resource, Some(line));
-                    Ok(())
-                }
-                Err(refusal) => Err(refusal),
-            },
-            Err(refusal) => Err(refusal),
-        }
+        let h = self.line_place(lines, charges, settling.resource, settling.at)?;
+        let line = self.reckon(settling)?;
+        let width = self.register.enrolled;
+        put_line(lines, width, h.number, settling.resource, Some(line));
+        Ok(())
     }
 }

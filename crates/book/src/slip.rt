@@ -1,13 +1,13 @@
 // A correction slip: handed out by a reopening, spent by a finishing, and never forgotten.
 ghost use Rattle.std.specs.Prelude.{◌≡◌, true, false};
 
+use crate::month_hour::MonthHour;
 use refusal::Refusal;
 
-// The book's number, and the day and the hour that are in correction.
+// The book's number, and the hour that is in correction.
 pub struct Slip {
     pub(crate) number: u32,
-    pub(crate) day: u32,
-    pub(crate) hour: u32,
+    pub(crate) at: MonthHour,
     spent: bool,
 }
 
@@ -19,13 +19,12 @@ pub struct RefusedSlip {
 
 impl Slip {
     // A slip as it is handed out.
-    pub(crate) fn new(number: u32, day: u32, hour: u32) -> Slip
-        ensures value { result ≡ record { number = number; day = day; hour = hour; spent = false } }
+    pub(crate) fn new(number: u32, at: MonthHour) -> Slip
+        ensures value { result ≡ record { number = number; at = at; spent = false } }
     {
         Slip {
             number,
-            day,
-            hour,
+            at,
             spent: false,
         }
     }
@@ -43,8 +42,7 @@ impl Drop for Slip {
     {
         let Slip {
             number: _,
-            day: _,
-            hour: _,
+            at: _,
             spent: _,
         } = self;
     }

@@ -10,6 +10,7 @@ ghost use Rattle.book.specs.Seen.{seen, granted_or};
 
 use crate::book::Book;
 use crate::energies::Energies;
+use crate::month_hour::{HourNumber, MonthHour};
 use refusal::Refusal;
 use table::lines::{BuyerLine, ResourceLine};
 
@@ -64,12 +65,11 @@ fn energies(buyers: u32, total: u32, others: &[u32]) -> Result<Energies, Refusal
 
 impl Book {
     // Notes an hour's energies.
-    fn tell_hour(&mut self, h: u32, energies: Energies)
-        requires { h < 744 }
-        ensures book { (lines : List ResourceLine) (charges : List BuyerLine) → seen self.new lines charges ≡ with_energies (seen self.old lines charges) h energies }
+    fn tell_hour(&mut self, h: HourNumber, energies: Energies)
+        ensures book { (lines : List ResourceLine) (charges : List BuyerLine) → seen self.new lines charges ≡ with_energies (seen self.old lines charges) h.number energies }
     {
-        let place = h as usize;
-        self.hours[place] = self.hours[place].told(energies);
+        let hour = &mut self.hours[h.number as usize];
+        *hour = hour.told(energies);
     }
 
     // Tells the energies of an hour that is not allotted; they replace those told before.
@@ -77,23 +77,16 @@ impl Book {
         &mut self,
         lines: &[ResourceLine],
         charges: &[BuyerLine],
-        day: u32,
-        hour: u32,
+        at: MonthHour,
         total: u32,
         others: &[u32],
     ) -> Result<(), Refusal>
-        ensures answer { result ≡ granted_or (refusal (tell day hour total others.now) (seen self.old lines.now charges.now)) tt }
-        ensures book { seen self.new lines.now charges.now ≡ (step (tell day hour total others.now) (seen self.old lines.now charges.now)).1 }
+        ensures answer { result ≡ granted_or (refusal (tell at.day at.hour total others.now) (seen self.old lines.now charges.now)) tt }
+        ensures book { seen self.new lines.now charges.now ≡ (step (tell at.day at.hour total others.now) (seen self.old lines.now charges.now)).1 }
     {
-        match self.telling_place(lines, charges, day, hour) {
-            Ok(h) => match energies(self.register.buyers, total, others) {
-                Ok(told) => {
-                    self.tell_hour(h, told);
-                    Ok(())
-                }
-                Err(refusal) => Err(refusal),
-            },
-            Err(refusal) => Err(refusal),
-        }
+        let h = self.telling_place(lines, charges, at)?;
+        let told = energies(self.register.buyers, total, others)?;
+        self.tell_hour(h, told);
+        Ok(())
     }
 }

@@ -5,6 +5,7 @@ ghost use Rattle.book.specs.Calls.Call.{withdraw};
 ghost use Rattle.book.specs.Seen.{seen, granted_or};
 
 use crate::book::Book;
+use crate::month_hour::MonthHour;
 use crate::rows::put_line;
 use refusal::Refusal;
 use table::lines::{BuyerLine, ResourceLine};
@@ -17,22 +18,17 @@ impl Book {
         lines: &mut [ResourceLine],
         charges: &[BuyerLine],
         resource: u32,
-        day: u32,
-        hour: u32,
+        at: MonthHour,
     ) -> Result<(), Refusal>
-        ensures answer { result ≡ granted_or (refusal (withdraw resource day hour) (seen self.now lines.old charges.now)) tt }
-        ensures book { seen self.now lines.new charges.now ≡ (step (withdraw resource day hour) (seen self.now lines.old charges.now)).1 }
+        ensures answer { result ≡ granted_or (refusal (withdraw resource at.day at.hour) (seen self.now lines.old charges.now)) tt }
+        ensures book { seen self.now lines.new charges.now ≡ (step (withdraw resource at.day at.hour) (seen self.now lines.old charges.now)).1 }
     {
-        match self.line_place(lines, charges, resource, day, hour) {
-            Ok(h) => match line_at(lines, self.register.enrolled, h, resource) {
-                None => Err(Refusal::NoLine),
-                Some(_) => {
-                    let width = self.register.enrolled;
-                    put_line(lines, width, h, resource, None);
-                    Ok(())
-                }
-            },
-            Err(refusal) => Err(refusal),
+        let h = self.line_place(lines, charges, resource, at)?;
+        let width = self.register.enrolled;
+        if line_at(lines, width, h.number, resource).is_none() {
+            return Err(Refusal::NoLine);
         }
+        put_line(lines, width, h.number, resource, None);
+        Ok(())
     }
 }

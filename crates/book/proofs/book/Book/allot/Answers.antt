@@ -3,41 +3,22 @@ use Rattle.book.specs.declared.hour.Step.TheVariants.{Allot}
 use Rattle.book.specs.State.{State, place}
 use Rattle.book.specs.Calls.{place_tests, state_by}
 use Rattle.book.specs.Calls.Call.{allot}
-use Rattle.book.specs.Seen.{seen, granted_or}
-use Rattle.book.proofs.Stepped.{place_refused, step_refused, step_taken, left, charged}
+use Rattle.book.specs.Seen.{seen}
+use Rattle.book.proofs.Stepped.{step_taken, left, charged}
 use Rattle.book.proofs.book.Book.allot.Goals as goal
 
-pub returns-in-Ok-step : goal.returns-in-Ok-step
-returns-in-Ok-step c =
+pub returns-clause-book : goal.returns-clause-book
+returns-clause-book c =
     let b : State = seen c.args.self.now c.args.lines.now c.args.charges.now in
-    let call = allot c.args.day c.args.hour in
-    let os = place_tests b c.args.day c.args.hour in
-    let p = place c.args.day c.args.hour in
-    let h = c.in-Ok.ensures.value in
-    let e = c.in-Ok-step.ensures.answer in
-    let none = step_taken call b Allot os p refl c.in-Ok.h h c.in-Ok-step.energies e in
-    record {
-      answer = sym (ap (λ o. granted_or o tt) none);
-      book = charged call b Allot os p refl c.in-Ok.h h (seen c.step.new.self c.args.lines.now c.args.charges.now) c.charge_hour.new.charges c.in-Ok-step.energies refl e (c.in-Ok-step.ensures.book c.args.lines.now c.args.charges.now) c.charge_hour.ensures.value
-          ∙ sym (ap (λ o. state_by o call b) none);
-    }
+    let call = allot c.args.at.day c.args.at.hour in
+    let os = place_tests b c.args.at.day c.args.at.hour in
+    let p = place c.args.at.day c.args.at.hour in
+    let h = c.in_ok-h.ensures.value in
+    let e = c.in_ok-energies.ensures.answer in
+    charged call b Allot os p refl c.in_ok-h.h.number h (seen c.step.new.self c.args.lines.now c.args.charges.now) c.charge_hour.new.charges c.in_ok-energies.energies refl e (c.in_ok-energies.ensures.book c.args.lines.now c.args.charges.now) c.charge_hour.ensures.value
+    ∙ sym (ap (λ o. state_by o call b) (step_taken call b Allot os p refl c.in_ok-h.h.number h c.in_ok-energies.energies e))
 
-pub returns-in-Err-step : goal.returns-in-Err-step
-returns-in-Err-step c =
+pub returns-in_err-energies-clause-book : goal.returns-in_err-energies-clause-book
+returns-in_err-energies-clause-book c =
     let b : State = seen c.args.self.now c.args.lines.now c.args.charges.now in
-    let call = allot c.args.day c.args.hour in
-    let os = place_tests b c.args.day c.args.hour in
-    let p = place c.args.day c.args.hour in
-    let h = c.in-Ok.ensures.value in
-    let e = c.in-Err-step.ensures.answer in
-    record {
-      answer = sym (ap (λ o. granted_or o tt) (step_refused call b Allot os p refl c.in-Ok.h h c.in-Err-step.reason e));
-      book = left call b Allot os p refl c.in-Ok.h h _ c.in-Err-step.reason e (c.in-Err-step.ensures.book c.args.lines.now c.args.charges.now);
-    }
-
-pub returns-in-Err : goal.returns-in-Err
-returns-in-Err c =
-    let b : State = seen c.args.self.now c.args.lines.now c.args.charges.now in
-    let call = allot c.args.day c.args.hour in
-    let e = place_refused call b Allot (place_tests b c.args.day c.args.hour) (place c.args.day c.args.hour) refl c.in-Err.refusal c.in-Err.ensures.value in
-    record { answer = sym (ap (λ o. granted_or o tt) e); book = sym (ap (λ o. state_by o call b) e) }
+    left (allot c.args.at.day c.args.at.hour) b Allot (place_tests b c.args.at.day c.args.at.hour) (place c.args.at.day c.args.at.hour) refl c.in_ok-h.h.number c.in_ok-h.ensures.value _ c.in_err-energies.field-0.0 c.in_err-energies.ensures.answer (c.in_err-energies.ensures.book c.args.lines.now c.args.charges.now)
