@@ -39,9 +39,9 @@ impl Resource {
     fn enter(&mut self, registration: Registration)
         ensures value { self.new ≡ resource_of registration }
     {
-        self.kind = match Kind::numbered(registration.kind) {
-            Some(kind) => kind,
-            None => Kind::Standard,
+        self.kind = match Kind::try_from(registration.kind) {
+            Ok(kind) => kind,
+            Err(_) => Kind::Standard,
         };
         self.aggregator = registration.aggregator;
         self.customers = registration.customers;

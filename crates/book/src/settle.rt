@@ -12,8 +12,7 @@ use crate::rows::put_line;
 use baseline::source::BaselineSource;
 use load::loads::DayClass;
 use refusal::Refusal;
-use settlement::settle::settle_line;
-use settlement::terms::{Line, Portfolio, Slot, Terms};
+use settlement::terms::{Line, Portfolio, ResourceHour, Slot, Terms};
 use table::lines::{BuyerLine, ResourceLine};
 
 // The resource and its hour, the terms, the marks of the customers that take part, and the scheduled and the mandatory source.
@@ -74,14 +73,12 @@ impl Book {
     {
         let portfolio = self.register.resources[settling.resource as usize].portfolio();
         let slot = self.slot(settling.at);
-        settle_line(
-            settling.scheduled,
-            settling.mandatory,
-            settling.marks,
+        let hour = ResourceHour {
             portfolio,
             slot,
-            settling.terms,
-        )
+            terms: settling.terms,
+        };
+        hour.settle(settling.scheduled, settling.mandatory, settling.marks)
     }
 
     // Settles a resource's hour that is not allotted, over two sources; the line replaces the one before.
