@@ -17,11 +17,12 @@ const ORDERED: Terms = Terms {
 
 // What an order comes to for a kind, in a month of one class.
 fn order_in(kind: u32, month: u32, class: u8, hour: u32) -> Result<(), Refusal> {
-    let days = [class; 31];
+    let days = if month == 6 { 30 } else { 31 };
+    let classes = [class; 31];
     let mut desk = Desk::new();
     desk.open(Opening {
         month,
-        classes: if month == 6 { &days[..30] } else { &days },
+        classes: &classes[..days],
         resources: &[Registration { kind, ..STANDARD }],
         ..MAY
     })?;
