@@ -1,8 +1,10 @@
 // Corrections: slips handed out, spent, refused and handed back.
 ghost use Rattle.std.specs.Prelude.{◌≡◌, IfErr, IfOk};
 ghost use Rattle.book.specs.Seen.{named_by};
-ghost use Rattle.book.specs.Slips.{Finishes};
+ghost use Rattle.std.specs.Fn.{FnOnceReturnsAtMut};
+ghost use Rattle.book.specs.Slips.{Finishes, Keeps};
 ghost use Rattle.edges.specs.Keeping.{on_desk};
+ghost use Rattle.edges.specs.declared.desk.Desk.{Desk};
 
 use crate::desk::{Desk, on};
 use crate::outcome::{Outcome, Tally};
@@ -36,28 +38,19 @@ impl Desk {
     }
 }
 
-// Reopens an hour and finishes it at once.
-fn again(desk: &mut Desk, at: MonthHour) -> Result<(), Refusal> {
+// Reopens an hour, does work that leaves its slip good, and finishes it; what the work came to.
+fn corrected<T, F: FnOnce(&mut Desk) -> T>(
+    desk: &mut Desk,
+    at: MonthHour,
+    work: F,
+) -> Result<T, Refusal>
+    requires callable { F.IsAlwaysCallable work }
+    requires keeps { (b c : Desk) (answer : T) → FnOnceReturnsAtMut F.FnOnce work b answer c → Keeps (on_desk b) (on_desk c) }
+{
     let slip = desk.reopen(at)?;
+    let answer = work(desk);
     desk.finish(slip);
-    Ok(())
-}
-
-// Reopens hour 11 of day 1, tells it other energies and reads a charge meanwhile, and finishes it.
-fn told_meanwhile(desk: &mut Desk) -> Result<[Outcome; 2], Refusal> {
-    let slip = desk.reopen(on(1, 11))?;
-    let told = desk.tell(on(1, 11), 10, &[4, 6]);
-    let read = desk.read_charge(0, on(1, 11)).map(|line| line.charge);
-    desk.finish(slip);
-    Ok([told.into(), read.into()])
-}
-
-// Reopens hour 11 of day 1, allots it meanwhile, and finishes it.
-fn allotted_meanwhile(desk: &mut Desk) -> Result<Outcome, Refusal> {
-    let slip = desk.reopen(on(1, 11))?;
-    let allotted = desk.allot(on(1, 11));
-    desk.finish(slip);
-    Ok(allotted.into())
+    Ok(answer)
 }
 
 // Reopens hour 11 of day 1, offers the slip to another book, and finishes with the slip that comes back; none comes back where it is taken.
@@ -85,23 +78,27 @@ pub fn corrections(tally: &mut Tally) -> anyhow::Result<()> {
         ("reopen an allotted hour and finish it", on(1, 11), Ok(())),
         ("reopen and finish it again", on(1, 11), Ok(())),
     ] {
-        tally.note(what, expected, again(&mut desk, at))?;
+        tally.note(what, expected, corrected(&mut desk, at, |_desk| ()))?;
     }
     let charge = desk.read_charge(2, on(1, 11)).map(|line| line.charge);
     tally.note("buyer 2's charge after that", Ok(34), charge)?;
-    let [told, read] = told_meanwhile(&mut desk)?;
-    tally.note("tell an hour in correction", Outcome::Granted, told)?;
+    let (told, read) = corrected(&mut desk, on(1, 11), |desk| {
+        let told = desk.tell(on(1, 11), 10, &[4, 6]);
+        (told, desk.read_charge(0, on(1, 11)).map(|line| line.charge))
+    })?;
+    tally.note("tell an hour in correction", Ok(()), told)?;
     tally.note(
         "read a charge of an hour in correction",
-        Outcome::Refused(Refusal::HourNotAllotted),
+        Err(Refusal::HourNotAllotted),
         read,
     )?;
     let charge = desk.read_charge(1, on(1, 11)).map(|line| line.charge);
     tally.note("buyer 1's charge after the correction", Ok(40), charge)?;
+    let allotted = corrected(&mut desk, on(1, 11), |desk| desk.allot(on(1, 11)))?;
     tally.note(
         "allot an hour in correction",
-        Outcome::Refused(Refusal::HourInCorrection),
-        allotted_meanwhile(&mut desk)?,
+        Err(Refusal::HourInCorrection),
+        allotted,
     )
 }
 
