@@ -1,50 +1,43 @@
 // Corrections, each with its slip spent at the end.
 use baseline::source::BaselineSource;
 use book::book::Book;
+use book::month_hour::MonthHour;
+use book::settle::Settling;
 use book::slip::RefusedSlip;
 use refusal::Refusal;
 use settlement::terms::Terms;
 use table::lines::{BuyerLine, ResourceLine};
 
-// The number of a refusal, 0 for none.
-pub fn number_of(answer: Result<(), Refusal>) -> u32 {
-    match answer {
-        Ok(()) => 0,
-        Err(refusal) => refusal.number(),
-    }
-}
-
-// Reopens an hour, tries to allot it, tells, settles, withdraws and settles it again, and finishes it; the numbers of the refusals in between, 0 for none.
+// Reopens an hour, tries to allot it, tells, settles, withdraws and settles it again, and finishes it; the answers in between.
 pub fn correct<S: BaselineSource>(
     book: &mut Book,
     lines: &mut [ResourceLine],
     charges: &mut [BuyerLine],
-    day: u32,
-    hour: u32,
+    at: MonthHour,
     terms: Terms,
     source: &S,
-) -> Result<[u32; 5], Refusal> {
-    let slip = book.reopen(lines, charges, day, hour)?;
-    let untimely = book.allot(lines, charges, day, hour);
-    let told = book.tell(lines, charges, day, hour, 10, &[4, 6]);
-    let settled = book.settle(lines, charges, 0, day, hour, terms, &[1], source, source);
-    let withdrawn = book.withdraw(lines, charges, 0, day, hour);
-    let again = book.settle(lines, charges, 0, day, hour, terms, &[1], source, source);
-    let finished = book.finish(lines, charges, slip);
-    match finished {
-        Ok(()) => {}
+) -> Result<[Result<(), Refusal>; 5], Refusal> {
+    let settling = Settling {
+        resource: 0,
+        at,
+        terms,
+        marks: &[1],
+        scheduled: source,
+        mandatory: source,
+    };
+    let slip = book.reopen(lines, charges, at)?;
+    let untimely = book.allot(lines, charges, at);
+    let told = book.tell(lines, charges, at, 10, &[4, 6]);
+    let settled = book.settle(lines, charges, &settling);
+    let withdrawn = book.withdraw(lines, charges, 0, at);
+    let again = book.settle(lines, charges, &settling);
+    match book.finish(lines, charges, slip) {
+        Ok(()) => Ok([untimely, told, settled, withdrawn, again]),
         Err(_refused) => unreachable(),
     }
-    Ok([
-        number_of(untimely),
-        number_of(told),
-        number_of(settled),
-        number_of(withdrawn),
-        number_of(again),
-    ])
 }
 
-// Offers the slip of one book to another, which refuses it, and finishes with it at home; the other book's refusal, 0 for none.
+// Offers the slip of one book to another, and finishes with it at home if it comes back; the other book's answer.
 pub fn offer_elsewhere(
     book: &mut Book,
     lines: &[ResourceLine],
@@ -52,19 +45,18 @@ pub fn offer_elsewhere(
     other: &mut Book,
     other_lines: &[ResourceLine],
     other_charges: &mut [BuyerLine],
-    day: u32,
-    hour: u32,
-) -> Result<u32, Refusal> {
-    let slip = book.reopen(lines, charges, day, hour)?;
+    at: MonthHour,
+) -> Result<Result<(), Refusal>, Refusal> {
+    let slip = book.reopen(lines, charges, at)?;
     match other.finish(other_lines, other_charges, slip) {
-        Ok(()) => Ok(0),
+        Ok(()) => Ok(Ok(())),
         Err(
             RefusedSlip {
                 refusal,
                 slip: back,
             },
         ) => match book.finish(lines, charges, back) {
-            Ok(()) => Ok(refusal.number()),
+            Ok(()) => Ok(Err(refusal)),
             Err(_refused) => unreachable(),
         },
     }

@@ -1,9 +1,10 @@
-// A book of May with one resource and three buyers, and one call each, answered by its refusal's number.
-use crate::corrections::number_of;
+// A book of May with one resource and three buyers, its two lists a place longer than the measure.
 use baseline::filed::FiledSource;
 use book::book::Book;
+use book::month_hour::MonthHour;
 use book::open::Opening;
 use book::register::Registration;
+use book::settle::Settling;
 use refusal::Refusal;
 use settlement::terms::{Line, Terms};
 use table::lines::{BuyerLine, ResourceLine};
@@ -36,170 +37,97 @@ pub(crate) const OLD_LINE: ResourceLine = Some(Line {
     fined: 7,
 });
 
-// Settles by a baseline of 2,000,000 Wh and a load of 1,200,000 Wh, filed for days 0 to 8.
-pub(crate) fn settle(
-    book: &Book,
-    lines: &mut [ResourceLine],
-    charges: &[BuyerLine],
+// A baseline of 2,000,000 Wh and a load of 1,200,000 Wh, filed for days 0 to 8.
+const FILED: FiledSource = FiledSource {
+    baselines: &[2_000_000; 216],
+    loads: &[1_200_000; 216],
+};
+
+// An hour of the month.
+pub(crate) fn on(day: u32, hour: u32) -> MonthHour {
+    MonthHour { day, hour }
+}
+
+// A settling by those.
+pub(crate) fn filed(
     resource: u32,
-    day: u32,
-    hour: u32,
+    at: MonthHour,
     terms: Terms,
-    mark: u8,
-) -> u32 {
-    let filed = FiledSource {
-        baselines: &[2_000_000; 216],
-        loads: &[1_200_000; 216],
-    };
-    number_of(book.settle(
-        lines,
-        charges,
+    marks: &[u8],
+) -> Settling<'_, FiledSource<'static>, FiledSource<'static>> {
+    Settling {
         resource,
-        day,
-        hour,
+        at,
         terms,
-        &[mark],
-        &filed,
-        &filed,
-    ))
+        marks,
+        scheduled: &FILED,
+        mandatory: &FILED,
+    }
 }
 
-// Tells energies.
-pub(crate) fn tell(
-    book: &mut Book,
-    lines: &[ResourceLine],
-    charges: &[BuyerLine],
-    day: u32,
-    hour: u32,
-    total: u32,
-    others: &[u32],
-) -> u32 {
-    number_of(book.tell(lines, charges, day, hour, total, others))
+// A book, and the lists that its calls are lent.
+#[derive(Drop, PartialEq)]
+pub(crate) struct Desk {
+    pub(crate) book: Book,
+    pub(crate) lines: [ResourceLine; 745],
+    pub(crate) charges: [BuyerLine; 2233],
 }
 
-// Allots.
-pub(crate) fn allot(
-    book: &mut Book,
-    lines: &[ResourceLine],
-    charges: &mut [BuyerLine],
-    day: u32,
-    hour: u32,
-) -> u32 {
-    number_of(book.allot(lines, charges, day, hour))
+impl Desk {
+    // A book not yet opened, with old lists.
+    pub(crate) fn new() -> Desk {
+        Desk {
+            book: Book::new(),
+            lines: [OLD_LINE; 745],
+            charges: [OLD; 2233],
+        }
+    }
+
+    // Opens the book, tells, settles and allots hour 11 of day 1, and tells and settles hour 12.
+    pub(crate) fn prepare(&mut self) -> Result<(), Refusal> {
+        let Desk {
+            book,
+            lines,
+            charges,
+        } = self;
+        let opening = Opening {
+            number: 7,
+            month: 5,
+            classes: &[0; 31],
+            first_day: 5,
+            buyers: 3,
+            resources: &[Registration {
+                kind: 1,
+                aggregator: 12,
+                customers: 1,
+            }],
+        };
+        book.open(opening, lines, charges)?;
+        book.tell(lines, charges, on(1, 11), 3, &[1, 1])?;
+        book.settle(lines, charges, &filed(0, on(1, 11), PLANNED, &[1]))?;
+        book.allot(lines, charges, on(1, 11))?;
+        book.tell(lines, charges, on(1, 12), 150_000_000, &[150_000_000, 0])?;
+        book.settle(lines, charges, &filed(0, on(1, 12), PLANNED, &[1]))
+    }
+
+    // A desk so prepared.
+    pub(crate) fn prepared() -> Result<Desk, Refusal> {
+        let mut desk = Desk::new();
+        desk.prepare()?;
+        Ok(desk)
+    }
 }
 
-// Reopens, and finishes at once if that is not refused.
+// Reopens an hour, and finishes it at once.
 pub(crate) fn reopen(
     book: &mut Book,
     lines: &[ResourceLine],
     charges: &mut [BuyerLine],
-    day: u32,
-    hour: u32,
-) -> u32 {
-    match book.reopen(lines, charges, day, hour) {
-        Ok(slip) => match book.finish(lines, charges, slip) {
-            Ok(()) => 0,
-            Err(_refused) => unreachable(),
-        },
-        Err(refusal) => refusal.number(),
-    }
-}
-
-// Withdraws.
-pub(crate) fn withdraw(
-    book: &Book,
-    lines: &mut [ResourceLine],
-    charges: &[BuyerLine],
-    resource: u32,
-    day: u32,
-    hour: u32,
-) -> u32 {
-    number_of(book.withdraw(lines, charges, resource, day, hour))
-}
-
-// Reads a line.
-pub(crate) fn read_line(
-    book: &Book,
-    lines: &[ResourceLine],
-    charges: &[BuyerLine],
-    resource: u32,
-    day: u32,
-    hour: u32,
-) -> u32 {
-    match book.read_line(lines, charges, resource, day, hour) {
-        Ok(_) => 0,
-        Err(refusal) => refusal.number(),
-    }
-}
-
-// Reads a charge.
-pub(crate) fn read_charge(
-    book: &Book,
-    lines: &[ResourceLine],
-    charges: &[BuyerLine],
-    buyer: u32,
-    day: u32,
-    hour: u32,
-) -> u32 {
-    match book.read_charge(lines, charges, buyer, day, hour) {
-        Ok(_) => 0,
-        Err(refusal) => refusal.number(),
-    }
-}
-
-// Opens the book.
-fn open(
-    book: &mut Book,
-    lines: &mut [ResourceLine],
-    charges: &mut [BuyerLine],
+    at: MonthHour,
 ) -> Result<(), Refusal> {
-    let opening = Opening {
-        number: 7,
-        month: 5,
-        classes: &[0; 31],
-        first_day: 5,
-        buyers: 3,
-        resources: &[Registration {
-            kind: 1,
-            aggregator: 12,
-            customers: 1,
-        }],
-    };
-    book.open(opening, lines, charges)
-}
-
-// Opens the book, tells, settles and allots hour 11 of day 1, and tells and settles hour 12; the numbers of all refusals added up.
-pub(crate) fn prepare(
-    book: &mut Book,
-    lines: &mut [ResourceLine],
-    charges: &mut [BuyerLine],
-) -> u64 {
-    let opened = number_of(open(book, lines, charges)) as u64;
-    let told = tell(book, lines, charges, 1, 11, 3, &[1, 1]) as u64;
-    let settled = settle(book, lines, charges, 0, 1, 11, PLANNED, 1) as u64;
-    let allotted = allot(book, lines, charges, 1, 11) as u64;
-    let next = tell(book, lines, charges, 1, 12, 150_000_000, &[150_000_000, 0]) as u64;
-    let last = settle(book, lines, charges, 0, 1, 12, PLANNED, 1) as u64;
-    opened + told + settled + allotted + next + last
-}
-
-// Whether two lists of lines hold the same.
-pub(crate) fn same_lines(lines: &[ResourceLine], others: &[ResourceLine]) -> bool {
-    lines == others
-}
-
-// Whether two lists of charges hold the same.
-pub(crate) fn same_charges(charges: &[BuyerLine], others: &[BuyerLine]) -> bool {
-    charges == others
-}
-
-// Whether a book and its lists are as a book prepared alike.
-pub(crate) fn as_prepared(book: &Book, lines: &[ResourceLine], charges: &[BuyerLine]) -> bool {
-    let mut twin = Book::new();
-    let mut twin_lines = [OLD_LINE; 745];
-    let mut twin_charges = [OLD; 2233];
-    prepare(&mut twin, &mut twin_lines, &mut twin_charges) == 0
-        && *book == twin
-        && same_lines(lines, &twin_lines)
-        && same_charges(charges, &twin_charges)
+    let slip = book.reopen(lines, charges, at)?;
+    match book.finish(lines, charges, slip) {
+        Ok(()) => Ok(()),
+        Err(_refused) => unreachable(),
+    }
 }

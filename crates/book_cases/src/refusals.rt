@@ -1,167 +1,226 @@
 // Every refusal of the calls at its edge, after which book and lists are as they were.
-use crate::desk::{
-    OLD, OLD_LINE, PLANNED, allot, as_prepared, prepare, read_charge, read_line, reopen, settle,
-    tell, withdraw,
-};
-use book::book::Book;
+use crate::desk::{Desk, PLANNED, filed, on, reopen};
+use refusal::{Cause, NoFigure, Refusal};
 use settlement::terms::Terms;
-use table::lines::{BuyerLine, ResourceLine};
+use std::process::Abort;
+use std::test::Fail;
 
-// Tells hours outside the month, and an allotted one.
-fn told_hours(book: &mut Book, lines: &[ResourceLine], charges: &[BuyerLine]) -> [u32; 5] {
-    [
-        tell(book, lines, charges, 0, 13, 3, &[1, 1]),
-        tell(book, lines, charges, 32, 13, 3, &[1, 1]),
-        tell(book, lines, charges, 1, 0, 3, &[1, 1]),
-        tell(book, lines, charges, 1, 25, 0, &[1, 1]),
-        tell(book, lines, charges, 1, 11, 0, &[1, 1]),
-    ]
+// What a day past the figures lacks.
+const LACKING: NoFigure = NoFigure {
+    customer: 0,
+    cause: Cause::MissingLoad,
+};
+
+// Tells hours outside the month, an allotted one, and energies that do not fit.
+fn telling(rt: &impl Abort, desk: &mut Desk) {
+    let Desk {
+        book,
+        lines,
+        charges,
+    } = desk;
+    for (at, total, others, refusal) in [
+        (on(0, 13), 3, &[1, 1][..], Refusal::NoSuchHour),
+        (on(32, 13), 3, &[1, 1], Refusal::NoSuchHour),
+        (on(1, 0), 3, &[1, 1], Refusal::NoSuchHour),
+        (on(1, 25), 0, &[1, 1], Refusal::NoSuchHour),
+        (on(1, 11), 0, &[1, 1], Refusal::HourAllotted),
+        (on(31, 24), 0, &[1], Refusal::BadTotal),
+        (on(31, 24), 150_000_001, &[1, 1], Refusal::BadTotal),
+        (on(31, 24), 3, &[4], Refusal::PurchaseCount),
+        (on(31, 24), 3, &[1, 1, 1], Refusal::PurchaseCount),
+        (on(31, 24), 3, &[2, 2], Refusal::PurchasesExceedTotal),
+        (
+            on(31, 24),
+            3,
+            &[4_294_967_295, 1],
+            Refusal::PurchasesExceedTotal,
+        ),
+    ] {
+        assert_eq!(rt; book.tell(lines, charges, at, total, others), Err(refusal));
+    }
 }
 
-// Tells energies that do not fit.
-fn told_energies(book: &mut Book, lines: &[ResourceLine], charges: &[BuyerLine]) -> [u32; 6] {
-    [
-        tell(book, lines, charges, 31, 24, 0, &[1]),
-        tell(book, lines, charges, 31, 24, 150_000_001, &[1, 1]),
-        tell(book, lines, charges, 31, 24, 3, &[4]),
-        tell(book, lines, charges, 31, 24, 3, &[1, 1, 1]),
-        tell(book, lines, charges, 31, 24, 3, &[2, 2]),
-        tell(book, lines, charges, 31, 24, 3, &[4_294_967_295, 1]),
-    ]
-}
-
-// Settles an hour outside the month, an unknown resource, an allotted hour, and terms that do not fit.
-fn settled_terms(book: &Book, lines: &mut [ResourceLine], charges: &[BuyerLine]) -> [u32; 6] {
-    let none = Terms {
-        plan: 0,
-        test: true,
-        ..PLANNED
-    };
-    let dear = Terms {
-        smp: 200_001,
-        test: true,
-        ..PLANNED
-    };
+// Settles an hour outside the month, an unknown resource, an allotted hour, terms that do not fit, an order outside its hours, and a day past the figures.
+fn settling(rt: &impl Abort, desk: &mut Desk) {
+    let Desk {
+        book,
+        lines,
+        charges,
+    } = desk;
     let marked = Terms {
         test: true,
         ..PLANNED
     };
-    [
-        settle(book, lines, charges, 1, 1, 25, none, 1),
-        settle(book, lines, charges, 1, 1, 11, none, 1),
-        settle(book, lines, charges, 0, 1, 11, none, 1),
-        settle(book, lines, charges, 0, 1, 12, none, 1),
-        settle(book, lines, charges, 0, 1, 12, dear, 1),
-        settle(book, lines, charges, 0, 1, 13, marked, 1),
-    ]
-}
-
-// Settles an order outside its hours, and a day past the figures.
-fn settled_orders(book: &Book, lines: &mut [ResourceLine], charges: &[BuyerLine]) -> [u32; 3] {
+    let none = Terms { plan: 0, ..marked };
+    let dear = Terms {
+        smp: 200_001,
+        ..marked
+    };
     let order = Terms {
         order: 1,
         ..PLANNED
     };
-    [
-        settle(book, lines, charges, 0, 5, 13, order, 1),
-        settle(book, lines, charges, 0, 5, 12, order, 1),
-        settle(book, lines, charges, 0, 5, 12, order, 0),
-    ]
+    for (resource, at, terms, mark, refusal) in [
+        (1, on(1, 25), none, 1, Refusal::NoSuchHour),
+        (1, on(1, 11), none, 1, Refusal::NoSuchResource),
+        (0, on(1, 11), none, 1, Refusal::HourAllotted),
+        (0, on(1, 12), none, 1, Refusal::NeitherPlanNorOrder),
+        (0, on(1, 12), dear, 1, Refusal::AboveLimit),
+        (0, on(1, 13), marked, 1, Refusal::MarkWithoutOrder),
+        (0, on(5, 13), order, 1, Refusal::OutsideOrderHours),
+        (0, on(5, 12), order, 1, Refusal::Scheduled(LACKING)),
+        (0, on(5, 12), order, 0, Refusal::Mandatory(LACKING)),
+    ] {
+        let settled = book.settle(lines, charges, &filed(resource, at, terms, &[mark]));
+        assert_eq!(rt; settled, Err(refusal));
+    }
 }
 
 // Withdraws outside the month, an unknown resource, from an allotted hour, and where no line stands.
-fn withdrawn(book: &Book, lines: &mut [ResourceLine], charges: &[BuyerLine]) -> [u32; 4] {
-    [
-        withdraw(book, lines, charges, 1, 0, 11),
-        withdraw(book, lines, charges, 1, 1, 11),
-        withdraw(book, lines, charges, 0, 1, 11),
-        withdraw(book, lines, charges, 0, 1, 13),
-    ]
+fn withdrawing(rt: &impl Abort, desk: &mut Desk) {
+    for (resource, at, refusal) in [
+        (1, on(0, 11), Refusal::NoSuchHour),
+        (1, on(1, 11), Refusal::NoSuchResource),
+        (0, on(1, 11), Refusal::HourAllotted),
+        (0, on(1, 13), Refusal::NoLine),
+    ] {
+        let withdrawn = desk
+            .book
+            .withdraw(&mut desk.lines, &desk.charges, resource, at);
+        assert_eq!(rt; withdrawn, Err(refusal));
+    }
 }
 
 // Allots outside the month, an allotted hour, and one with no energies told.
-fn allotted(book: &mut Book, lines: &[ResourceLine], charges: &mut [BuyerLine]) -> [u32; 3] {
-    [
-        allot(book, lines, charges, 1, 0),
-        allot(book, lines, charges, 1, 11),
-        allot(book, lines, charges, 1, 13),
-    ]
+fn allotting(rt: &impl Abort, desk: &mut Desk) {
+    for (at, refusal) in [
+        (on(1, 0), Refusal::NoSuchHour),
+        (on(1, 11), Refusal::HourAllotted),
+        (on(1, 13), Refusal::NoEnergies),
+    ] {
+        let allotted = desk.book.allot(&desk.lines, &mut desk.charges, at);
+        assert_eq!(rt; allotted, Err(refusal));
+    }
 }
 
 // Reopens outside the month, an hour that is only told, one that is blank, and an allotted one.
-fn reopened(book: &mut Book, lines: &[ResourceLine], charges: &mut [BuyerLine]) -> [u32; 4] {
-    [
-        reopen(book, lines, charges, 32, 11),
-        reopen(book, lines, charges, 1, 12),
-        reopen(book, lines, charges, 1, 13),
-        reopen(book, lines, charges, 1, 11),
-    ]
+fn reopening(rt: &impl Abort, desk: &mut Desk) {
+    for (at, expected) in [
+        (on(32, 11), Err(Refusal::NoSuchHour)),
+        (on(1, 12), Err(Refusal::HourNotAllotted)),
+        (on(1, 13), Err(Refusal::HourNotAllotted)),
+        (on(1, 11), Ok(())),
+    ] {
+        let reopened = reopen(&mut desk.book, &desk.lines, &mut desk.charges, at);
+        assert_eq!(rt; reopened, expected);
+    }
 }
 
 // Reads lines and charges that are not there.
-fn read(book: &Book, lines: &[ResourceLine], charges: &[BuyerLine]) -> [u32; 6] {
-    [
-        read_line(book, lines, charges, 1, 1, 25),
-        read_line(book, lines, charges, 1, 1, 13),
-        read_line(book, lines, charges, 0, 1, 13),
-        read_charge(book, lines, charges, 3, 32, 11),
-        read_charge(book, lines, charges, 3, 1, 12),
-        read_charge(book, lines, charges, 2, 1, 12),
-    ]
-}
-
-// Whether each call on a prepared book is refused as it should be, and all is as it was.
-fn refused(book: &mut Book, lines: &mut [ResourceLine], charges: &mut [BuyerLine]) -> bool {
-    prepare(book, lines, charges) == 0
-        && told_hours(book, lines, charges) == [10, 10, 10, 10, 11]
-        && told_energies(book, lines, charges) == [12, 12, 13, 13, 14, 14]
-        && settled_terms(book, lines, charges) == [10, 20, 11, 21, 22, 23]
-        && settled_orders(book, lines, charges) == [24, 25, 26]
-        && withdrawn(book, lines, charges) == [10, 20, 11, 28]
-        && allotted(book, lines, charges) == [10, 11, 16]
-        && reopened(book, lines, charges) == [10, 17, 17, 0]
-        && read(book, lines, charges) == [10, 20, 28, 10, 29, 17]
-        && as_prepared(book, lines, charges)
-}
-
-// Whether each call on a book not yet opened names no hour.
-fn unopened(book: &mut Book, lines: &mut [ResourceLine], charges: &mut [BuyerLine]) -> bool {
-    tell(book, lines, charges, 1, 11, 3, &[1, 1]) == 10
-        && settle(book, lines, charges, 0, 1, 11, PLANNED, 1) == 10
-        && allot(book, lines, charges, 1, 11) == 10
-        && read_line(book, lines, charges, 0, 1, 11) == 10
-}
-
-// Whether a prepared book refuses lists shorter than the measure before anything else.
-fn measured(book: &mut Book, lines: &mut [ResourceLine], charges: &mut [BuyerLine]) -> bool {
-    if lines.len() < 743 || charges.len() < 2231 {
-        return false;
+fn reading(rt: &impl Abort, desk: &Desk) {
+    let Desk {
+        book,
+        lines,
+        charges,
+    } = desk;
+    for (resource, at, refusal) in [
+        (1, on(1, 25), Refusal::NoSuchHour),
+        (1, on(1, 13), Refusal::NoSuchResource),
+        (0, on(1, 13), Refusal::NoLine),
+    ] {
+        assert_eq!(rt; book.read_line(lines, charges, resource, at), Err(refusal));
     }
-    tell(book, &lines[0..743], charges, 0, 11, 3, &[1, 1]) == 7
-        && tell(book, lines, &charges[0..2231], 0, 11, 3, &[1, 1]) == 7
-        && read_line(book, &lines[0..743], charges, 9, 0, 0) == 7
-        && read_charge(book, lines, &charges[0..2231], 9, 0, 0) == 7
+    for (buyer, at, refusal) in [
+        (3, on(32, 11), Refusal::NoSuchHour),
+        (3, on(1, 12), Refusal::NoSuchBuyer),
+        (2, on(1, 12), Refusal::HourNotAllotted),
+    ] {
+        assert_eq!(rt; book.read_charge(lines, charges, buyer, at), Err(refusal));
+    }
 }
 
-// Whether it does so in the calls that change a list.
-fn measured_too(book: &mut Book, lines: &mut [ResourceLine], charges: &mut [BuyerLine]) -> bool {
-    if lines.len() < 743 || charges.len() < 2231 {
-        return false;
-    }
-    settle(book, lines, &charges[0..2231], 9, 0, 0, PLANNED, 1) == 7
-        && withdraw(book, lines, &charges[0..2231], 9, 0, 0) == 7
-        && allot(book, &lines[0..743], charges, 0, 0) == 7
-        && reopen(book, &lines[0..743], charges, 0, 0) == 7
-        && as_prepared(book, lines, charges)
+// A book not yet opened names no hour.
+fn unopened(rt: &impl Abort, desk: &mut Desk) {
+    let Desk {
+        book,
+        lines,
+        charges,
+    } = desk;
+    let at = on(1, 11);
+    let settling = filed(0, at, PLANNED, &[1]);
+    assert_eq!(rt;
+        book.tell(lines, charges, at, 3, &[1, 1]),
+        Err(Refusal::NoSuchHour)
+    );
+    assert_eq!(rt;
+        book.settle(lines, charges, &settling),
+        Err(Refusal::NoSuchHour)
+    );
+    assert_eq!(rt; book.allot(lines, charges, at), Err(Refusal::NoSuchHour));
+    assert_eq!(rt;
+        book.read_line(lines, charges, 0, at),
+        Err(Refusal::NoSuchHour)
+    );
+}
+
+// A prepared book refuses lists shorter than the measure before anything else.
+fn measured(rt: &impl Abort, desk: &mut Desk) {
+    let Desk {
+        book,
+        lines,
+        charges,
+    } = desk;
+    let short = Refusal::ShortLists;
+    assert_eq!(rt;
+        book.tell(&lines[..743], charges, on(0, 11), 3, &[1, 1]),
+        Err(short)
+    );
+    assert_eq!(rt;
+        book.tell(lines, &charges[..2231], on(0, 11), 3, &[1, 1]),
+        Err(short)
+    );
+    assert_eq!(rt;
+        book.read_line(&lines[..743], charges, 9, on(0, 0)),
+        Err(short)
+    );
+    assert_eq!(rt;
+        book.read_charge(lines, &charges[..2231], 9, on(0, 0)),
+        Err(short)
+    );
+}
+
+// So it does in the calls that change a list.
+fn measured_too(rt: &impl Abort, desk: &mut Desk) {
+    let settling = filed(9, on(0, 0), PLANNED, &[1]);
+    let Desk {
+        book,
+        lines,
+        charges,
+    } = desk;
+    let short = Refusal::ShortLists;
+    assert_eq!(rt; book.settle(lines, &charges[..2231], &settling), Err(short));
+    assert_eq!(rt;
+        book.withdraw(lines, &charges[..2231], 9, on(0, 0)),
+        Err(short)
+    );
+    assert_eq!(rt; book.allot(&lines[..743], charges, on(0, 0)), Err(short));
+    assert_eq!(rt; reopen(book, &lines[..743], charges, on(0, 0)), Err(short));
 }
 
 #[test]
-fn every_refusal_leaves_all_as_it_was(rt: HostRuntime) {
-    let mut book = Book::new();
-    let mut lines = [OLD_LINE; 745];
-    let mut charges = [OLD; 2233];
-    assert!(rt; unopened(&mut book, &mut lines, &mut charges));
-    assert!(rt; refused(&mut book, &mut lines, &mut charges));
-    assert!(rt; measured(&mut book, &mut lines, &mut charges));
-    assert!(rt; measured_too(&mut book, &mut lines, &mut charges));
+fn every_refusal_leaves_all_as_it_was(rt: HostRuntime) -> Result<(), Fail> {
+    let mut desk = Desk::new();
+    unopened(&rt, &mut desk);
+    desk.prepare()?;
+    telling(&rt, &mut desk);
+    settling(&rt, &mut desk);
+    withdrawing(&rt, &mut desk);
+    allotting(&rt, &mut desk);
+    reopening(&rt, &mut desk);
+    reading(&rt, &desk);
+    assert!(rt; desk == Desk::prepared()?);
+    measured(&rt, &mut desk);
+    measured_too(&rt, &mut desk);
+    assert!(rt; desk == Desk::prepared()?);
+    Ok(())
 }

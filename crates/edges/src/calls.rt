@@ -1,261 +1,263 @@
 // The book's calls at their edges, each refusal in its order, and the shares.
-use crate::desk::{BEYOND, Desk, PLANNED};
-use crate::outcome::{Outcome, Tally, answered, refused, said};
+use crate::desk::{BEYOND, Desk, NO_CUTS, PLANNED, on};
+use crate::outcome::Tally;
+use refusal::Refusal;
 use settlement::terms::Terms;
 
-// A book of May, kind 1, one customer.
-fn may() -> Desk {
-    let mut desk = Desk::new();
-    let _ = desk.open(5, &[0; 31], 1, 1);
-    desk
-}
-
-// A book of May with hour 11 of day 1 told, settled for 100 won and allotted, and hour 12 settled and not told.
-pub fn allotted() -> Desk {
-    let mut desk = may();
-    let _ = desk.tell(1, 11, 3, &[1, 1]);
-    let _ = desk.settle(0, 11, PLANNED, 1_000_000, 0);
-    let _ = desk.allot(1, 11);
-    let _ = desk.settle(0, 12, PLANNED, 1_000_000, 0);
-    desk
-}
-
 // Telling at its edges.
-pub fn telling(rt: &HostRuntime, tally: &mut Tally) -> anyhow::Result<()> {
-    let mut desk = allotted();
-    for (what, day, hour, total, others, expected) in [
-        ("tell on day 0", 0, 12, 3, [1, 1], Outcome::Refused(10)),
-        ("tell on day 32", 32, 12, 3, [1, 1], Outcome::Refused(10)),
-        ("tell in hour 0", 1, 0, 3, [1, 1], Outcome::Refused(10)),
-        ("tell in hour 25", 1, 25, 3, [1, 1], Outcome::Refused(10)),
+pub fn telling(tally: &mut Tally) -> anyhow::Result<()> {
+    let mut desk = Desk::allotted()?;
+    for (what, at, total, others, expected) in [
         (
-            "tell on the last day in hour 24",
-            31,
-            24,
+            "tell on day 0",
+            on(0, 12),
             3,
             [1, 1],
-            Outcome::Granted,
+            Err(Refusal::NoSuchHour),
+        ),
+        (
+            "tell on day 32",
+            on(32, 12),
+            3,
+            [1, 1],
+            Err(Refusal::NoSuchHour),
+        ),
+        (
+            "tell in hour 0",
+            on(1, 0),
+            3,
+            [1, 1],
+            Err(Refusal::NoSuchHour),
+        ),
+        (
+            "tell in hour 25",
+            on(1, 25),
+            3,
+            [1, 1],
+            Err(Refusal::NoSuchHour),
+        ),
+        (
+            "tell on the last day in hour 24",
+            on(31, 24),
+            3,
+            [1, 1],
+            Ok(()),
         ),
         (
             "tell an allotted hour",
-            1,
-            11,
+            on(1, 11),
             3,
             [1, 1],
-            Outcome::Refused(11),
+            Err(Refusal::HourAllotted),
         ),
         (
             "tell an allotted hour a total of 0: 11 comes before 12",
-            1,
-            11,
+            on(1, 11),
             0,
             [1, 1],
-            Outcome::Refused(11),
+            Err(Refusal::HourAllotted),
         ),
-        ("tell a total of 0", 1, 12, 0, [0, 0], Outcome::Refused(12)),
-        ("tell a total of 1", 1, 12, 1, [0, 0], Outcome::Granted),
+        (
+            "tell a total of 0",
+            on(1, 12),
+            0,
+            [0, 0],
+            Err(Refusal::BadTotal),
+        ),
+        ("tell a total of 1", on(1, 12), 1, [0, 0], Ok(())),
         (
             "tell a total of 150,000,000",
-            1,
-            12,
+            on(1, 12),
             150_000_000,
             [1, 1],
-            Outcome::Granted,
+            Ok(()),
         ),
         (
             "tell a total of 150,000,001",
-            1,
-            12,
+            on(1, 12),
             150_000_001,
             [1, 1],
-            Outcome::Refused(12),
+            Err(Refusal::BadTotal),
         ),
         (
             "tell purchases equal to the total",
-            1,
-            12,
+            on(1, 12),
             3,
             [1, 2],
-            Outcome::Granted,
+            Ok(()),
         ),
         (
             "tell purchases one above the total",
-            1,
-            12,
+            on(1, 12),
             3,
             [2, 2],
-            Outcome::Refused(14),
+            Err(Refusal::PurchasesExceedTotal),
         ),
         (
             "tell purchases that pass 32 bits",
-            1,
-            12,
+            on(1, 12),
             3,
             [4_294_967_295, 4],
-            Outcome::Refused(14),
+            Err(Refusal::PurchasesExceedTotal),
         ),
     ] {
-        tally.note(rt, what, expected, desk.tell(day, hour, total, &others))?;
+        tally.note(what, expected, desk.tell(at, total, &others))?;
     }
-    let n = Outcome::Refused(13);
-    tally.note(rt, "tell one purchase of two", n, desk.tell(1, 12, 3, &[9]))?;
-    tally.note(
-        rt,
-        "tell three purchases of two",
-        n,
-        desk.tell(1, 12, 3, &[1, 1, 1]),
-    )?;
-    let n = Outcome::Refused(12);
-    tally.note(rt, "12 comes before 13", n, desk.tell(1, 12, 0, &[1]))
+    for (what, total, others, refusal) in [
+        (
+            "tell one purchase of two",
+            3,
+            &[9][..],
+            Refusal::PurchaseCount,
+        ),
+        (
+            "tell three purchases of two",
+            3,
+            &[1, 1, 1],
+            Refusal::PurchaseCount,
+        ),
+        ("12 comes before 13", 0, &[1], Refusal::BadTotal),
+    ] {
+        tally.note(what, Err(refusal), desk.tell(on(1, 12), total, others))?;
+    }
+    Ok(())
 }
 
 // Settling, withdrawing and reading a line at their edges.
-pub fn lines(rt: &HostRuntime, tally: &mut Tally) -> anyhow::Result<()> {
-    let mut desk = allotted();
+pub fn lines(tally: &mut Tally) -> anyhow::Result<()> {
+    let mut desk = Desk::allotted()?;
     let nothing = Terms { plan: 0, ..PLANNED };
-    let n = Outcome::Refused(10);
-    tally.note(
-        rt,
-        "settle in hour 25",
-        n,
-        desk.settle(9, 25, PLANNED, 0, 0),
-    )?;
-    let n = Outcome::Refused(20);
-    tally.note(
-        rt,
-        "settle an unknown resource: 20 comes before 11",
-        n,
-        desk.settle(1, 11, PLANNED, 0, 0),
-    )?;
-    let n = Outcome::Refused(11);
-    tally.note(
-        rt,
-        "settle an allotted hour: 11 comes before 21",
-        n,
-        desk.settle(0, 11, nothing, 0, 0),
-    )?;
-    for (what, resource, day, hour, expected) in [
-        ("withdraw in hour 0", 9, 1, 0, Outcome::Refused(10)),
+    for (what, resource, at, terms, refusal) in [
+        (
+            "settle in hour 25",
+            9,
+            on(1, 25),
+            PLANNED,
+            Refusal::NoSuchHour,
+        ),
+        (
+            "settle an unknown resource: 20 comes before 11",
+            1,
+            on(1, 11),
+            PLANNED,
+            Refusal::NoSuchResource,
+        ),
+        (
+            "settle an allotted hour: 11 comes before 21",
+            0,
+            on(1, 11),
+            nothing,
+            Refusal::HourAllotted,
+        ),
+    ] {
+        tally.note(
+            what,
+            Err(refusal),
+            desk.settle(resource, at, terms, NO_CUTS),
+        )?;
+    }
+    for (what, resource, at, expected) in [
+        ("withdraw in hour 0", 9, on(1, 0), Err(Refusal::NoSuchHour)),
         (
             "withdraw of an unknown resource: 20 comes before 11",
             1,
-            1,
-            11,
-            Outcome::Refused(20),
+            on(1, 11),
+            Err(Refusal::NoSuchResource),
         ),
         (
             "withdraw in an allotted hour",
             0,
-            1,
-            11,
-            Outcome::Refused(11),
+            on(1, 11),
+            Err(Refusal::HourAllotted),
         ),
         (
             "withdraw where no line stands",
             0,
-            1,
-            13,
-            Outcome::Refused(28),
+            on(1, 13),
+            Err(Refusal::NoLine),
         ),
-        ("withdraw a line", 0, 1, 12, Outcome::Granted),
-        ("withdraw it again", 0, 1, 12, Outcome::Refused(28)),
+        ("withdraw a line", 0, on(1, 12), Ok(())),
+        ("withdraw it again", 0, on(1, 12), Err(Refusal::NoLine)),
     ] {
-        tally.note(rt, what, expected, desk.withdraw(resource, day, hour))?;
+        tally.note(what, expected, desk.withdraw(resource, at))?;
     }
-    for (what, resource, day, hour, expected) in [
-        ("read a line on day 32", 9, 32, 1, Outcome::Refused(10)),
+    for (what, resource, at, expected) in [
+        (
+            "read a line on day 32",
+            9,
+            on(32, 1),
+            Err(Refusal::NoSuchHour),
+        ),
         (
             "read a line of an unknown resource",
             1,
-            1,
-            13,
-            Outcome::Refused(20),
+            on(1, 13),
+            Err(Refusal::NoSuchResource),
         ),
         (
             "read a line where none stands",
             0,
-            1,
-            13,
-            Outcome::Refused(28),
+            on(1, 13),
+            Err(Refusal::NoLine),
         ),
-        (
-            "read a line of an allotted hour",
-            0,
-            1,
-            11,
-            Outcome::Granted,
-        ),
+        ("read a line of an allotted hour", 0, on(1, 11), Ok(())),
     ] {
-        tally.note(rt, what, expected, desk.read_line(resource, day, hour))?;
+        tally.note(what, expected, desk.read_line(resource, at).map(|_| ()))?;
     }
     Ok(())
 }
 
 // Allotting and reading a charge at their edges.
-pub fn allotting(rt: &HostRuntime, tally: &mut Tally) -> anyhow::Result<()> {
-    let mut desk = allotted();
-    for (what, day, hour, expected) in [
-        ("allot in hour 25", 1, 25, Outcome::Refused(10)),
-        ("allot an allotted hour", 1, 11, Outcome::Refused(11)),
+pub fn allotting(tally: &mut Tally) -> anyhow::Result<()> {
+    let mut desk = Desk::allotted()?;
+    for (what, at, refusal) in [
+        ("allot in hour 25", on(1, 25), Refusal::NoSuchHour),
+        ("allot an allotted hour", on(1, 11), Refusal::HourAllotted),
         (
             "allot an hour without energies",
-            1,
-            12,
-            Outcome::Refused(16),
+            on(1, 12),
+            Refusal::NoEnergies,
         ),
     ] {
-        tally.note(rt, what, expected, desk.allot(day, hour))?;
+        tally.note(what, Err(refusal), desk.allot(at))?;
     }
-    for (what, buyer, day, hour, expected) in [
-        ("read a charge in hour 25", 9, 1, 25, Outcome::Refused(10)),
+    for (what, buyer, at, expected) in [
+        (
+            "read a charge in hour 25",
+            9,
+            on(1, 25),
+            Err(Refusal::NoSuchHour),
+        ),
         (
             "read a charge of an unknown buyer: 29 comes before 17",
             3,
-            1,
-            12,
-            Outcome::Refused(29),
+            on(1, 12),
+            Err(Refusal::NoSuchBuyer),
         ),
         (
             "read a charge of an hour not allotted",
             0,
-            1,
-            12,
-            Outcome::Refused(17),
+            on(1, 12),
+            Err(Refusal::HourNotAllotted),
         ),
         (
             "the retailer's share of 100 over 1, 1, 1 is not given the odd won",
             0,
-            1,
-            11,
-            Outcome::Number(33),
+            on(1, 11),
+            Ok(33),
         ),
-        (
-            "buyer 1's share of 100 over 1, 1, 1",
-            1,
-            1,
-            11,
-            Outcome::Number(33),
-        ),
-        (
-            "buyer 2's share of 100 over 1, 1, 1",
-            2,
-            1,
-            11,
-            Outcome::Number(34),
-        ),
+        ("buyer 1's share of 100 over 1, 1, 1", 1, on(1, 11), Ok(33)),
+        ("buyer 2's share of 100 over 1, 1, 1", 2, on(1, 11), Ok(34)),
     ] {
-        tally.note(rt, what, expected, desk.charge(buyer, day, hour))?;
+        let charge = desk.read_charge(buyer, at).map(|line| line.charge);
+        tally.note(what, expected, charge)?;
     }
-    tally.note(
-        rt,
-        "buyer 2's refund where nothing is fined",
-        Outcome::Number(0),
-        desk.refund(2, 1, 11),
-    )
+    let refund = desk.read_charge(2, on(1, 11)).map(|line| line.refund);
+    tally.note("buyer 2's refund where nothing is fined", Ok(0), refund)
 }
 
 // Other shares: an amount of so many won as a fine or as pay, over other purchases.
-pub fn shares(rt: &HostRuntime, tally: &mut Tally) -> anyhow::Result<()> {
+pub fn shares(tally: &mut Tally) -> anyhow::Result<()> {
     for (what, plan, total, others, buyer, expected) in [
         (
             "the retailer's share of 2 over 1, 1, 1",
@@ -292,81 +294,75 @@ pub fn shares(rt: &HostRuntime, tally: &mut Tally) -> anyhow::Result<()> {
             60,
         ),
     ] {
-        let mut desk = may();
-        let terms = Terms { plan, ..PLANNED };
-        let _ = desk.tell(1, 11, total, &others);
-        let _ = desk.settle(0, 11, terms, 0, 0);
-        let _ = desk.allot(1, 11);
-        tally.note(
-            rt,
-            what,
-            Outcome::Number(expected),
-            desk.refund(buyer, 1, 11),
-        )?;
+        let mut desk = Desk::may(1)?;
+        desk.tell(on(1, 11), total, &others)?;
+        desk.settle(0, on(1, 11), Terms { plan, ..PLANNED }, NO_CUTS)?;
+        desk.allot(on(1, 11))?;
+        let refund = desk.read_charge(buyer, on(1, 11)).map(|line| line.refund);
+        tally.note(what, Ok(expected), refund)?;
     }
     Ok(())
 }
 
 // A book not yet opened.
-pub fn unopened(rt: &HostRuntime, tally: &mut Tally) -> anyhow::Result<()> {
+pub fn unopened(tally: &mut Tally) -> anyhow::Result<()> {
     let mut desk = Desk::new();
-    let n = Outcome::Refused(10);
-    tally.note(rt, "unopened: tell", n, desk.tell(1, 1, 3, &[1, 1]))?;
-    tally.note(rt, "unopened: settle", n, desk.settle(0, 1, PLANNED, 0, 0))?;
-    tally.note(rt, "unopened: withdraw", n, desk.withdraw(0, 1, 1))?;
-    tally.note(rt, "unopened: allot", n, desk.allot(1, 1))?;
-    tally.note(rt, "unopened: read a line", n, desk.read_line(0, 1, 1))?;
-    tally.note(rt, "unopened: read a charge", n, desk.charge(0, 1, 1))?;
-    let got = match desk.book.reconcile(&[], &[]) {
-        Ok(sums) => said(
-            sums.payments == 0 && sums.fines == 0 && sums.charges == 0 && sums.refunds == 0,
+    for (what, answer) in [
+        ("unopened: tell", desk.tell(on(1, 1), 3, &[1, 1])),
+        (
+            "unopened: settle",
+            desk.settle(0, on(1, 1), PLANNED, NO_CUTS),
         ),
-        Err(refusal) => refused(refusal),
-    };
+        ("unopened: withdraw", desk.withdraw(0, on(1, 1))),
+        ("unopened: allot", desk.allot(on(1, 1))),
+        (
+            "unopened: read a line",
+            desk.read_line(0, on(1, 1)).map(|_| ()),
+        ),
+        (
+            "unopened: read a charge",
+            desk.read_charge(0, on(1, 1)).map(|_| ()),
+        ),
+    ] {
+        tally.note(what, Err(Refusal::NoSuchHour), answer)?;
+    }
+    let sums = desk.book.reconcile(&[], &[])?;
     tally.note(
-        rt,
         "unopened: reconcile over no lists gives nothing (1 is yes)",
-        Outcome::Number(1),
-        got,
+        true,
+        sums.payments == 0 && sums.fines == 0 && sums.charges == 0 && sums.refunds == 0,
     )
 }
 
 // Lists shorter than the measure, and what lies beyond it.
-pub fn lists(rt: &HostRuntime, tally: &mut Tally) -> anyhow::Result<()> {
-    let mut desk = allotted();
-    let n = Outcome::Refused(7);
+pub fn lists(tally: &mut Tally) -> anyhow::Result<()> {
+    let mut desk = Desk::allotted()?;
     let Desk {
-        mut book,
-        lines,
-        charges,
-    } = desk;
-    let got = answered(book.tell(&lines[0..743], &charges, 0, 0, 0, &[]));
-    tally.note(rt, "743 lines: 7 comes before 10", n, got)?;
-    let got = answered(book.tell(&lines, &charges[0..2231], 1, 12, 3, &[1, 1]));
-    tally.note(rt, "2,231 charges", n, got)?;
-    let got = answered(book.tell(&lines[0..744], &charges[0..2232], 1, 12, 3, &[1, 1]));
-    tally.note(rt, "lists as long as the measure", Outcome::Granted, got)?;
-    let got = match book.reconcile(&lines[0..743], &charges) {
-        Ok(_) => Outcome::Granted,
-        Err(refusal) => refused(refusal),
-    };
-    tally.note(rt, "reconcile over 743 lines", n, got)?;
-    let stays = charges[2232] == BEYOND && charges[2231].charge == 0;
-    tally.note(
-        rt,
-        "the place past the measure stays, the last within is emptied (1 is yes)",
-        Outcome::Number(1),
-        said(stays),
-    )?;
-    desk = Desk {
         book,
         lines,
         charges,
-    };
+    } = &mut desk;
+    let short = book.tell(&lines[0..743], charges, on(0, 0), 0, &[]);
     tally.note(
-        rt,
+        "743 lines: 7 comes before 10",
+        Err(Refusal::ShortLists),
+        short,
+    )?;
+    let short = book.tell(lines, &charges[0..2231], on(1, 12), 3, &[1, 1]);
+    tally.note("2,231 charges", Err(Refusal::ShortLists), short)?;
+    let whole = book.tell(&lines[0..744], &charges[0..2232], on(1, 12), 3, &[1, 1]);
+    tally.note("lists as long as the measure", Ok(()), whole)?;
+    let short = book.reconcile(&lines[0..743], charges).map(|_| ());
+    tally.note("reconcile over 743 lines", Err(Refusal::ShortLists), short)?;
+    tally.note(
+        "the place past the measure stays, the last within is emptied (1 is yes)",
+        true,
+        charges[2232] == BEYOND && charges[2231].charge == 0,
+    )?;
+    let allotted = desk.allot(on(1, 12));
+    tally.note(
         "an hour told over lists as long as the measure",
-        Outcome::Granted,
-        desk.allot(1, 12),
+        Ok(()),
+        allotted,
     )
 }

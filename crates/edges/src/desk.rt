@@ -1,16 +1,74 @@
-// A book with its two lists, one place longer each than the measure, and its calls as outcomes.
-use crate::outcome::{Outcome, answered, refused};
+// A book with its two lists, one place longer each than the measure, and its calls.
+ghost use Rattle.book.specs.Slips.{Keeps};
+ghost use Rattle.edges.specs.Keeping.{on_desk};
+
 use baseline::filed::FiledSource;
 use book::book::Book;
+use book::month_hour::MonthHour;
 use book::open::Opening;
+use book::read::LineReading;
 use book::register::Registration;
+use book::settle::Settling;
+use refusal::Refusal;
 use settlement::terms::Terms;
 use table::lines::{BuyerLine, ResourceLine};
+
+// An hour of the month.
+pub fn on(day: u32, hour: u32) -> MonthHour {
+    MonthHour { day, hour }
+}
 
 // What lies beyond the measure.
 pub const BEYOND: BuyerLine = BuyerLine {
     charge: 7,
     refund: -7,
+};
+
+// A resource of kind 1 with one customer.
+pub const STANDARD: Registration = Registration {
+    kind: 1,
+    aggregator: 12,
+    customers: 1,
+};
+
+// An opening of May, with workdays alone, one resource and three buyers.
+pub const MAY: Opening<'static> = Opening {
+    number: 7,
+    month: 5,
+    classes: &[0; 31],
+    first_day: 5,
+    buyers: 3,
+    resources: &[STANDARD],
+};
+
+// Neither plan nor order.
+pub const NOTHING: Terms = Terms {
+    plan: 0,
+    order: 0,
+    emergency: false,
+    test: false,
+    smp: 0,
+    mgp: 0,
+};
+
+// A plan of 1,000,000 Wh at 0.10 won per kWh.
+pub const PLANNED: Terms = Terms {
+    plan: 1_000_000,
+    smp: 10,
+    ..NOTHING
+};
+
+// What each customer cuts in every hour by the scheduled and by the mandatory source, in Wh.
+#[derive(Clone, Copy)]
+pub struct Cuts {
+    pub scheduled: i32,
+    pub mandatory: i32,
+}
+
+// What is cut where nothing is.
+pub const NO_CUTS: Cuts = Cuts {
+    scheduled: 0,
+    mandatory: 0,
 };
 
 // The lists of 31 days, one resource and three buyers, and a place more.
@@ -20,16 +78,6 @@ pub struct Desk {
     pub lines: [ResourceLine; 745],
     pub charges: [BuyerLine; 2233],
 }
-
-// A plan of 1,000,000 Wh at 0.10 won per kWh.
-pub const PLANNED: Terms = Terms {
-    plan: 1_000_000,
-    order: 0,
-    emergency: false,
-    test: false,
-    smp: 10,
-    mgp: 0,
-};
 
 impl Desk {
     // A book not yet opened.
@@ -41,153 +89,119 @@ impl Desk {
         }
     }
 
-    // Opens the book with one resource, days of one class and three buyers.
-    pub fn open(&mut self, month: u32, classes: &[u8], kind: u32, customers: u32) -> Outcome {
-        let opening = Opening {
-            number: 7,
-            month,
-            classes,
-            first_day: 5,
-            buyers: 3,
+    // A book of May whose resource has so many customers.
+    pub fn may(customers: u32) -> Result<Desk, Refusal> {
+        let mut desk = Desk::new();
+        desk.open(Opening {
             resources: &[Registration {
-                kind,
-                aggregator: 12,
                 customers,
+                ..STANDARD
             }],
+            ..MAY
+        })?;
+        Ok(desk)
+    }
+
+    // A book of May with hour 11 of day 1 told, settled for 100 won and allotted, and hour 12 settled and not told.
+    pub fn allotted() -> Result<Desk, Refusal> {
+        let mut desk = Desk::may(1)?;
+        let cuts = Cuts {
+            scheduled: 1_000_000,
+            ..NO_CUTS
         };
-        answered(self.book.open(opening, &mut self.lines, &mut self.charges))
+        desk.tell(on(1, 11), 3, &[1, 1])?;
+        desk.settle(0, on(1, 11), PLANNED, cuts)?;
+        desk.allot(on(1, 11))?;
+        desk.settle(0, on(1, 12), PLANNED, cuts)?;
+        Ok(desk)
+    }
+
+    // Opens the book.
+    pub fn open(&mut self, opening: Opening) -> Result<(), Refusal> {
+        self.book.open(opening, &mut self.lines, &mut self.charges)
     }
 
     // Tells an hour's energies.
-    pub fn tell(&mut self, day: u32, hour: u32, total: u32, others: &[u32]) -> Outcome {
-        answered(
-            self.book
-                .tell(&self.lines, &self.charges, day, hour, total, others),
-        )
+    pub fn tell(&mut self, at: MonthHour, total: u32, others: &[u32]) -> Result<(), Refusal>
+        ensures keeps { Keeps (on_desk self.old) (on_desk self.new) }
+    {
+        self.book
+            .tell(&self.lines, &self.charges, at, total, others)
     }
 
-    // Settles an hour of day 1 over two filed sources in which every baseline is the same and every load is 0.
-    pub fn settle(&mut self, resource: u32, hour: u32, terms: Terms, sr: i32, dr: i32) -> Outcome {
-        let scheduled = [sr; 4608];
-        let mandatory = [dr; 4608];
+    // Settles an hour over two filed sources in which every baseline is the same and every load is 0.
+    pub fn settle(
+        &mut self,
+        resource: u32,
+        at: MonthHour,
+        terms: Terms,
+        cuts: Cuts,
+    ) -> Result<(), Refusal> {
         let loads = [0; 4608];
-        answered(
-            self.book.settle(
-                &mut self.lines,
-                &self.charges,
-                resource,
-                1,
-                hour,
-                terms,
-                &[1, 1],
-                &FiledSource {
-                    baselines: &scheduled,
-                    loads: &loads,
-                },
-                &FiledSource {
-                    baselines: &mandatory,
-                    loads: &loads,
-                },
-            ),
-        )
+        let settling = Settling {
+            resource,
+            at,
+            terms,
+            marks: &[1, 1],
+            scheduled: &FiledSource {
+                baselines: &[cuts.scheduled; 4608],
+                loads: &loads,
+            },
+            mandatory: &FiledSource {
+                baselines: &[cuts.mandatory; 4608],
+                loads: &loads,
+            },
+        };
+        self.book.settle(&mut self.lines, &self.charges, &settling)
     }
 
     // Settles hour 11 of day 1 over a source in which customer k cuts 10 to the power k, up to four customers, with marks.
-    pub fn settle_marked(&mut self, terms: Terms, marks: &[u8]) -> Outcome {
-        let loads = [0; 9216];
-        let baselines = tens();
+    pub fn settle_marked(&mut self, terms: Terms, marks: &[u8]) -> Result<(), Refusal> {
         let source = FiledSource {
-            baselines: &baselines,
-            loads: &loads,
+            baselines: &tens(),
+            loads: &[0; 9216],
         };
-        answered(
-            self.book.settle(
-                &mut self.lines,
-                &self.charges,
-                0,
-                1,
-                11,
-                terms,
-                marks,
-                &source,
-                &source,
-            ),
-        )
+        let settling = Settling {
+            resource: 0,
+            at: on(1, 11),
+            terms,
+            marks,
+            scheduled: &source,
+            mandatory: &source,
+        };
+        self.book.settle(&mut self.lines, &self.charges, &settling)
     }
 
     // Withdraws a line.
-    pub fn withdraw(&mut self, resource: u32, day: u32, hour: u32) -> Outcome {
-        answered(
-            self.book
-                .withdraw(&mut self.lines, &self.charges, resource, day, hour),
-        )
+    pub fn withdraw(&mut self, resource: u32, at: MonthHour) -> Result<(), Refusal> {
+        self.book
+            .withdraw(&mut self.lines, &self.charges, resource, at)
     }
 
     // Allots an hour.
-    pub fn allot(&mut self, day: u32, hour: u32) -> Outcome {
-        answered(self.book.allot(&self.lines, &mut self.charges, day, hour))
+    pub fn allot(&mut self, at: MonthHour) -> Result<(), Refusal>
+        ensures keeps { Keeps (on_desk self.old) (on_desk self.new) }
+    {
+        self.book.allot(&self.lines, &mut self.charges, at)
     }
 
-    // A figure of the line in an hour of day 1: 0 SR, 1 DR, 2 DLR, 3 SLR, 4 paid, any other fined.
-    pub fn figure(&self, hour: u32, which: u32) -> Outcome {
-        match self.book.read_line(&self.lines, &self.charges, 0, 1, hour) {
-            Ok(line) => Outcome::Number(match which {
-                0 => line.sr,
-                1 => line.dr,
-                2 => i64::try_from(line.dlr).unwrap_or(-1),
-                3 => i64::try_from(line.slr).unwrap_or(-1),
-                4 => line.paid,
-                _ => i64::from(line.fined),
-            }),
-            Err(refusal) => refused(refusal),
-        }
+    // Reads a line.
+    pub fn read_line(&self, resource: u32, at: MonthHour) -> Result<LineReading, Refusal> {
+        self.book
+            .read_line(&self.lines, &self.charges, resource, at)
     }
 
-    // Reads a line, and says only whether there is one.
-    pub fn read_line(&self, resource: u32, day: u32, hour: u32) -> Outcome {
-        match self
-            .book
-            .read_line(&self.lines, &self.charges, resource, day, hour)
-        {
-            Ok(_) => Outcome::Granted,
-            Err(refusal) => refused(refusal),
-        }
-    }
-
-    // A buyer's charge.
-    pub fn charge(&self, buyer: u32, day: u32, hour: u32) -> Outcome {
-        match self
-            .book
-            .read_charge(&self.lines, &self.charges, buyer, day, hour)
-        {
-            Ok(line) => Outcome::Number(line.charge),
-            Err(refusal) => refused(refusal),
-        }
-    }
-
-    // A buyer's refund.
-    pub fn refund(&self, buyer: u32, day: u32, hour: u32) -> Outcome {
-        match self
-            .book
-            .read_charge(&self.lines, &self.charges, buyer, day, hour)
-        {
-            Ok(line) => Outcome::Number(line.refund),
-            Err(refusal) => refused(refusal),
-        }
+    // Reads a buyer's charge and refund.
+    pub fn read_charge(&self, buyer: u32, at: MonthHour) -> Result<BuyerLine, Refusal> {
+        self.book.read_charge(&self.lines, &self.charges, buyer, at)
     }
 }
 
 // Baselines of four customers: 1, 10, 100 and 1,000 in every hour.
 fn tens() -> [i32; 9216] {
-    let mut baselines = [1; 9216];
-    for i in 2304..4608 {
-        baselines[i] = 10;
-    }
-    for i in 4608..6912 {
-        baselines[i] = 100;
-    }
-    for i in 6912..9216 {
-        baselines[i] = 1_000;
+    let mut baselines = [0; 9216];
+    for (customer, cut) in baselines.chunks_exact_mut(2304).zip([1, 10, 100, 1_000]) {
+        customer.fill(cut);
     }
     baselines
 }

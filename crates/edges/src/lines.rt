@@ -1,87 +1,49 @@
 // The hour's line: order hours, limits, marks, worked figures and misreadings.
-use crate::desk::{Desk, PLANNED};
+use crate::desk::{Cuts, Desk, MAY, NO_CUTS, NOTHING, PLANNED, STANDARD, on};
 use crate::outcome::{Outcome, Tally};
+use book::open::Opening;
+use book::read::LineReading;
+use book::register::Registration;
+use refusal::{Cause, NoFigure, Refusal};
 use settlement::terms::Terms;
 
 // An order of 1,000,000 Wh, SMP 100 and MGP 150 won per kWh.
 const ORDERED: Terms = Terms {
-    plan: 0,
     order: 1_000_000,
-    emergency: false,
-    test: false,
     smp: 10_000,
     mgp: 15_000,
+    ..NOTHING
 };
 
 // What an order comes to for a kind, in a month of one class.
-fn order_in(kind: u32, month: u32, class: u8, hour: u32) -> Outcome {
-    let mut desk = Desk::new();
+fn order_in(kind: u32, month: u32, class: u8, hour: u32) -> Result<(), Refusal> {
+    let days = if month == 6 { 30 } else { 31 };
     let classes = [class; 31];
-    let opened = if month == 6 {
-        desk.open(month, &classes[0..30], kind, 1)
-    } else {
-        desk.open(month, &classes, kind, 1)
-    };
-    if opened != Outcome::Granted {
-        return opened;
-    }
-    desk.settle(0, hour, ORDERED, 0, 0)
+    let mut desk = Desk::new();
+    desk.open(Opening {
+        month,
+        classes: &classes[..days],
+        resources: &[Registration { kind, ..STANDARD }],
+        ..MAY
+    })?;
+    desk.settle(0, on(1, hour), ORDERED, NO_CUTS)
 }
 
 // Orders at the edges of their hours.
-pub fn order_hours(rt: &HostRuntime, tally: &mut Tally) -> anyhow::Result<()> {
+pub fn order_hours(tally: &mut Tally) -> anyhow::Result<()> {
+    let outside = Err(Refusal::OutsideOrderHours);
     for kind in 1..3 {
         for (what, class, hour, expected) in [
-            (
-                "order of kind 1 or 2, workday, hour 9",
-                0,
-                9,
-                Outcome::Refused(24),
-            ),
-            (
-                "order of kind 1 or 2, workday, hour 10",
-                0,
-                10,
-                Outcome::Granted,
-            ),
-            (
-                "order of kind 1 or 2, workday, hour 12",
-                0,
-                12,
-                Outcome::Granted,
-            ),
-            (
-                "order of kind 1 or 2, workday, hour 13",
-                0,
-                13,
-                Outcome::Refused(24),
-            ),
-            (
-                "order of kind 1 or 2, workday, hour 14",
-                0,
-                14,
-                Outcome::Granted,
-            ),
-            (
-                "order of kind 1 or 2, workday, hour 20",
-                0,
-                20,
-                Outcome::Granted,
-            ),
-            (
-                "order of kind 1 or 2, workday, hour 21",
-                0,
-                21,
-                Outcome::Refused(24),
-            ),
-            (
-                "order of kind 1 or 2, holiday, hour 12",
-                1,
-                12,
-                Outcome::Refused(24),
-            ),
+            ("order of kind 1 or 2, workday, hour 9", 0, 9, outside),
+            ("order of kind 1 or 2, workday, hour 10", 0, 10, Ok(())),
+            ("order of kind 1 or 2, workday, hour 12", 0, 12, Ok(())),
+            ("order of kind 1 or 2, workday, hour 13", 0, 13, outside),
+            ("order of kind 1 or 2, workday, hour 14", 0, 14, Ok(())),
+            ("order of kind 1 or 2, workday, hour 20", 0, 20, Ok(())),
+            ("order of kind 1 or 2, workday, hour 21", 0, 21, outside),
+            ("order of kind 1 or 2, holiday, hour 12", 1, 12, outside),
         ] {
-            tally.note(rt, what, expected, order_in(kind, 5, class, hour))?;
+            tally.note(what, expected, order_in(kind, 5, class, hour))?;
         }
     }
     for kind in 3..5 {
@@ -91,408 +53,420 @@ pub fn order_hours(rt: &HostRuntime, tally: &mut Tally) -> anyhow::Result<()> {
                 3,
                 1,
                 10,
-                Outcome::Refused(24),
+                outside,
             ),
             (
                 "order of kind 3 or 4, March holiday, hour 11",
                 3,
                 1,
                 11,
-                Outcome::Granted,
+                Ok(()),
             ),
             (
                 "order of kind 3 or 4, March holiday, hour 13",
                 3,
                 1,
                 13,
-                Outcome::Granted,
+                Ok(()),
             ),
             (
                 "order of kind 3 or 4, March holiday, hour 17",
                 3,
                 1,
                 17,
-                Outcome::Granted,
+                Ok(()),
             ),
             (
                 "order of kind 3 or 4, March holiday, hour 18",
                 3,
                 1,
                 18,
-                Outcome::Refused(24),
+                outside,
             ),
             (
                 "order of kind 3 or 4, March workday, hour 11",
                 3,
                 0,
                 11,
-                Outcome::Refused(24),
+                outside,
             ),
             (
                 "order of kind 3 or 4, June holiday, hour 11",
                 6,
                 1,
                 11,
-                Outcome::Refused(24),
+                outside,
             ),
             (
                 "order of kind 3 or 4, June holiday, hour 17",
                 6,
                 1,
                 17,
-                Outcome::Refused(24),
+                outside,
             ),
         ] {
-            tally.note(rt, what, expected, order_in(kind, month, class, hour))?;
+            tally.note(what, expected, order_in(kind, month, class, hour))?;
         }
     }
     Ok(())
 }
 
-// A book of May opened for kind 1.
-fn may(customers: u32) -> Desk {
-    let mut desk = Desk::new();
-    let _ = desk.open(5, &[0; 31], 1, customers);
-    desk
-}
-
 // Terms at their limits and one past, and the order of the tests.
-pub fn limits(rt: &HostRuntime, tally: &mut Tally) -> anyhow::Result<()> {
-    let mut desk = may(1);
-    let r = Outcome::Refused(22);
-    for (what, plan, order, smp, mgp, expected) in [
-        ("neither plan nor order", 0, 0, 0, 0, Outcome::Refused(21)),
+pub fn limits(tally: &mut Tally) -> anyhow::Result<()> {
+    let mut desk = Desk::may(1)?;
+    let least = Terms { plan: 1, ..NOTHING };
+    for (what, terms, expected) in [
+        (
+            "neither plan nor order",
+            NOTHING,
+            Err(Refusal::NeitherPlanNorOrder),
+        ),
         (
             "neither plan nor order, SMP past its limit",
-            0,
-            0,
-            200_001,
-            0,
-            Outcome::Refused(21),
+            Terms {
+                smp: 200_001,
+                ..NOTHING
+            },
+            Err(Refusal::NeitherPlanNorOrder),
         ),
-        ("plan 640,000,000", 640_000_000, 0, 0, 0, Outcome::Granted),
-        ("plan 640,000,001", 640_000_001, 0, 0, 0, r),
-        ("order 500,000,000", 0, 500_000_000, 0, 0, Outcome::Granted),
-        ("order 500,000,001", 0, 500_000_001, 0, 0, r),
-        ("SMP 200,000", 1, 0, 200_000, 0, Outcome::Granted),
-        ("SMP 200,001", 1, 0, 200_001, 0, r),
+        (
+            "plan 640,000,000",
+            Terms {
+                plan: 640_000_000,
+                ..NOTHING
+            },
+            Ok(()),
+        ),
+        (
+            "plan 640,000,001",
+            Terms {
+                plan: 640_000_001,
+                ..NOTHING
+            },
+            Err(Refusal::AboveLimit),
+        ),
+        (
+            "order 500,000,000",
+            Terms {
+                order: 500_000_000,
+                ..NOTHING
+            },
+            Ok(()),
+        ),
+        (
+            "order 500,000,001",
+            Terms {
+                order: 500_000_001,
+                ..NOTHING
+            },
+            Err(Refusal::AboveLimit),
+        ),
+        (
+            "SMP 200,000",
+            Terms {
+                smp: 200_000,
+                ..least
+            },
+            Ok(()),
+        ),
+        (
+            "SMP 200,001",
+            Terms {
+                smp: 200_001,
+                ..least
+            },
+            Err(Refusal::AboveLimit),
+        ),
         (
             "MGP 200,000 without an order",
-            1,
-            0,
-            0,
-            200_000,
-            Outcome::Granted,
+            Terms {
+                mgp: 200_000,
+                ..least
+            },
+            Ok(()),
         ),
-        ("MGP 200,001 without an order", 1, 0, 0, 200_001, r),
+        (
+            "MGP 200,001 without an order",
+            Terms {
+                mgp: 200_001,
+                ..least
+            },
+            Err(Refusal::AboveLimit),
+        ),
     ] {
-        let terms = Terms {
-            plan,
-            order,
-            emergency: false,
-            test: false,
-            smp,
-            mgp,
-        };
-        tally.note(rt, what, expected, desk.settle(0, 11, terms, 0, 0))?;
+        tally.note(what, expected, desk.settle(0, on(1, 11), terms, NO_CUTS))?;
     }
     Ok(())
 }
 
+// Customer 0 lacks the load.
+const LACKING: NoFigure = NoFigure {
+    customer: 0,
+    cause: Cause::MissingLoad,
+};
+
 // Marks without an order, and which test comes first.
-pub fn first_tests(rt: &HostRuntime, tally: &mut Tally) -> anyhow::Result<()> {
-    let mut desk = may(1);
-    let past = 40_000_001;
-    for (what, plan, order, emergency, test, hour, sr, dr, expected) in [
+pub fn first_tests(tally: &mut Tally) -> anyhow::Result<()> {
+    let mut desk = Desk::may(1)?;
+    let plan = Terms { plan: 1, ..NOTHING };
+    let order = Terms {
+        order: 1,
+        ..NOTHING
+    };
+    let both = Terms { order: 1, ..plan };
+    let emergency = Terms {
+        emergency: true,
+        ..plan
+    };
+    let past = Cuts {
+        scheduled: 40_000_001,
+        mandatory: 40_000_001,
+    };
+    let past_scheduled = Cuts {
+        mandatory: 0,
+        ..past
+    };
+    let past_mandatory = Cuts {
+        scheduled: 0,
+        ..past
+    };
+    for (what, terms, hour, cuts, expected) in [
         (
             "emergency mark without an order",
-            1,
-            0,
-            true,
-            false,
+            emergency,
             11,
-            0,
-            0,
-            Outcome::Refused(23),
+            NO_CUTS,
+            Err(Refusal::MarkWithoutOrder),
         ),
         (
             "test mark without an order",
-            1,
-            0,
-            false,
-            true,
+            Terms { test: true, ..plan },
             11,
-            0,
-            0,
-            Outcome::Refused(23),
+            NO_CUTS,
+            Err(Refusal::MarkWithoutOrder),
         ),
         (
             "23 comes before 25",
-            1,
-            0,
-            true,
-            true,
+            Terms {
+                test: true,
+                ..emergency
+            },
             13,
-            past,
-            0,
-            Outcome::Refused(23),
+            past_scheduled,
+            Err(Refusal::MarkWithoutOrder),
         ),
         (
             "22 comes before 23",
-            640_000_001,
-            0,
-            true,
-            false,
+            Terms {
+                plan: 640_000_001,
+                ..emergency
+            },
             11,
-            0,
-            0,
-            Outcome::Refused(22),
+            NO_CUTS,
+            Err(Refusal::AboveLimit),
         ),
         (
             "24 comes before 25",
-            1,
-            1,
-            false,
-            false,
+            both,
             13,
-            past,
-            0,
-            Outcome::Refused(24),
+            past_scheduled,
+            Err(Refusal::OutsideOrderHours),
         ),
-        (
-            "a plan alone in hour 13",
-            1,
-            0,
-            false,
-            false,
-            13,
-            0,
-            0,
-            Outcome::Granted,
-        ),
+        ("a plan alone in hour 13", plan, 13, NO_CUTS, Ok(())),
         (
             "25 comes before 26",
-            1,
-            1,
-            false,
-            false,
+            both,
             11,
             past,
-            past,
-            Outcome::Lacking(25, 0, 2),
+            Err(Refusal::Scheduled(LACKING)),
         ),
         (
             "26 with a sound scheduled source",
-            1,
-            1,
-            false,
-            false,
+            both,
             11,
-            0,
-            past,
-            Outcome::Lacking(26, 0, 2),
+            past_mandatory,
+            Err(Refusal::Mandatory(LACKING)),
         ),
         (
             "without a plan the scheduled source is not asked",
-            0,
-            1,
-            false,
-            false,
+            order,
             11,
-            past,
-            0,
-            Outcome::Granted,
+            past_scheduled,
+            Ok(()),
         ),
         (
             "without an order the mandatory source is not asked",
-            1,
-            0,
-            false,
-            false,
+            plan,
             11,
-            0,
-            past,
-            Outcome::Granted,
+            past_mandatory,
+            Ok(()),
         ),
     ] {
-        let terms = Terms {
-            plan,
-            order,
-            emergency,
-            test,
-            smp: 0,
-            mgp: 0,
-        };
-        tally.note(rt, what, expected, desk.settle(0, hour, terms, sr, dr))?;
+        tally.note(what, expected, desk.settle(0, on(1, hour), terms, cuts))?;
     }
     Ok(())
 }
 
+// A figure of a line.
+#[derive(Clone, Copy)]
+enum Figure {
+    Dlr(u64),
+    Slr(u64),
+    Paid(i64),
+    Fined(u32),
+}
+
+impl Figure {
+    // The same figure as a line has it.
+    fn in_line(self, line: LineReading) -> Figure {
+        match self {
+            Figure::Dlr(_) => Figure::Dlr(line.dlr),
+            Figure::Slr(_) => Figure::Slr(line.slr),
+            Figure::Paid(_) => Figure::Paid(line.paid),
+            Figure::Fined(_) => Figure::Fined(line.fined),
+        }
+    }
+}
+
+impl From<Figure> for Outcome {
+    fn from(figure: Figure) -> Outcome {
+        Outcome::Number(match figure {
+            Figure::Dlr(energy) | Figure::Slr(energy) => energy.into(),
+            Figure::Paid(won) => won.into(),
+            Figure::Fined(won) => won.into(),
+        })
+    }
+}
+
 // The worked figures of a line, and what is easily misread in it.
-pub fn figures(rt: &HostRuntime, tally: &mut Tally) -> anyhow::Result<()> {
-    for (what, plan, order, emergency, test, smp, sr, dr, which, expected) in [
+pub fn figures(tally: &mut Tally) -> anyhow::Result<()> {
+    let cut = Cuts {
+        scheduled: 0,
+        mandatory: 1_300_000,
+    };
+    let both = Terms {
+        plan: 500_000,
+        smp: 12_050,
+        ..ORDERED
+    };
+    let both_cut = Cuts {
+        scheduled: 1_300_000,
+        mandatory: 1_000_000,
+    };
+    let plan = Terms { order: 0, ..both };
+    let hundred = Terms { plan: 100, ..plan };
+    let million = Terms {
+        plan: 1_000_000,
+        ..plan
+    };
+    let raised = Cuts {
+        scheduled: -5,
+        ..NO_CUTS
+    };
+    let part = Cuts {
+        scheduled: 800_000,
+        ..NO_CUTS
+    };
+    for (what, terms, cuts, expected) in [
         (
             "order pay at six fifths",
-            0,
-            1_000_000,
-            false,
-            false,
-            10_000,
-            0,
-            1_300_000,
-            4,
-            180_000,
+            ORDERED,
+            cut,
+            Figure::Paid(180_000),
         ),
         (
             "order pay in an emergency",
-            0,
-            1_000_000,
-            true,
-            false,
-            10_000,
-            0,
-            1_300_000,
-            4,
-            195_000,
+            Terms {
+                emergency: true,
+                ..ORDERED
+            },
+            cut,
+            Figure::Paid(195_000),
         ),
         (
             "order pay of a test at SMP",
-            0,
-            1_000_000,
-            false,
-            true,
-            10_000,
-            0,
-            1_300_000,
-            4,
-            120_000,
+            Terms {
+                test: true,
+                ..ORDERED
+            },
+            cut,
+            Figure::Paid(120_000),
         ),
         (
             "DLR of a negative DR",
-            0,
-            1_000_000,
-            false,
-            false,
-            10_000,
-            0,
-            -7,
-            2,
-            0,
+            ORDERED,
+            Cuts {
+                mandatory: -7,
+                ..NO_CUTS
+            },
+            Figure::Dlr(0),
         ),
         (
             "six fifths of 4 with the fraction dropped",
-            0,
-            4,
-            false,
-            false,
-            0,
-            0,
-            9,
-            2,
-            4,
+            Terms {
+                order: 4,
+                smp: 0,
+                ..ORDERED
+            },
+            Cuts {
+                mandatory: 9,
+                ..NO_CUTS
+            },
+            Figure::Dlr(4),
         ),
-        (
-            "SLR is SR less DLR",
-            500_000,
-            1_000_000,
-            false,
-            false,
-            12_050,
-            1_300_000,
-            1_000_000,
-            3,
-            300_000,
-        ),
+        ("SLR is SR less DLR", both, both_cut, Figure::Slr(300_000)),
         (
             "DLR is not taken off SR in the fine",
-            500_000,
-            1_000_000,
-            false,
-            false,
-            12_050,
-            1_300_000,
-            1_000_000,
-            5,
-            0,
+            both,
+            both_cut,
+            Figure::Fined(0),
         ),
         (
             "SLR is at most the plan",
-            500_000,
-            0,
-            false,
-            false,
-            12_050,
-            1_300_000,
-            0,
-            3,
-            500_000,
+            plan,
+            Cuts {
+                mandatory: 0,
+                ..both_cut
+            },
+            Figure::Slr(500_000),
         ),
         (
             "paid of plan 100 and SR -5",
-            100,
-            0,
-            false,
-            false,
-            12_050,
-            -5,
-            0,
-            4,
-            0,
+            hundred,
+            raised,
+            Figure::Paid(0),
         ),
         (
             "fined of plan 100 and SR -5",
-            100,
-            0,
-            false,
-            false,
-            12_050,
-            -5,
-            0,
-            5,
-            12,
+            hundred,
+            raised,
+            Figure::Fined(12),
         ),
         (
             "fined of plan 1,000,000 and SR 800,000",
-            1_000_000,
-            0,
-            false,
-            false,
-            12_050,
-            800_000,
-            0,
-            5,
-            24_100,
+            million,
+            part,
+            Figure::Fined(24_100),
         ),
         (
             "paid of plan 1,000,000 and SR 800,000",
-            1_000_000,
-            0,
-            false,
-            false,
-            12_050,
-            800_000,
-            0,
-            4,
-            96_400,
+            million,
+            part,
+            Figure::Paid(96_400),
         ),
     ] {
-        let mut desk = may(1);
-        let terms = Terms {
-            plan,
-            order,
-            emergency,
-            test,
-            smp,
-            mgp: 15_000,
-        };
-        let _ = desk.settle(0, 11, terms, sr, dr);
-        tally.note(rt, what, Outcome::Number(expected), desk.figure(11, which))?;
+        let mut desk = Desk::may(1)?;
+        desk.settle(0, on(1, 11), terms, cuts)?;
+        let figure = desk
+            .read_line(0, on(1, 11))
+            .map(|line| expected.in_line(line));
+        tally.note(what, Ok(expected), figure)?;
     }
     Ok(())
 }
 
 // Taking-part marks: customers 0 to 3 cut 1, 10, 100 and 1,000.
-pub fn marks(rt: &HostRuntime, tally: &mut Tally) -> anyhow::Result<()> {
+pub fn marks(tally: &mut Tally) -> anyhow::Result<()> {
     for (what, customers, marks, expected) in [
         ("all four take part", 4, [1, 1, 1, 1, 1], 1_111),
         (
@@ -508,37 +482,33 @@ pub fn marks(rt: &HostRuntime, tally: &mut Tally) -> anyhow::Result<()> {
             11,
         ),
     ] {
-        let mut desk = may(customers);
-        let _ = desk.settle_marked(PLANNED, &marks);
-        tally.note(rt, what, Outcome::Number(expected), desk.figure(11, 0))?;
+        let mut desk = Desk::may(customers)?;
+        desk.settle_marked(PLANNED, &marks)?;
+        let sr = desk.read_line(0, on(1, 11)).map(|line| line.sr);
+        tally.note(what, Ok(expected), sr)?;
     }
-    let mut desk = may(4);
-    let _ = desk.settle_marked(PLANNED, &[1]);
+    let mut desk = Desk::may(4)?;
+    desk.settle_marked(PLANNED, &[1])?;
+    let sr = desk.read_line(0, on(1, 11)).map(|line| line.sr);
+    tally.note("a customer without a mark takes no part", Ok(1), sr)?;
+    desk.settle_marked(ORDERED, &[])?;
+    let dr = desk.read_line(0, on(1, 11)).map(|line| line.dr);
     tally.note(
-        rt,
-        "a customer without a mark takes no part",
-        Outcome::Number(1),
-        desk.figure(11, 0),
-    )?;
-    let _ = desk.settle_marked(ORDERED, &[]);
-    tally.note(
-        rt,
         "an order asks all customers whatever the marks",
-        Outcome::Number(1_111),
-        desk.figure(11, 1),
+        Ok(1_111),
+        dr,
     )?;
-    let mut desk = may(5);
-    let lacking = Outcome::Lacking(25, 4, 2);
+    let mut desk = Desk::may(5)?;
+    let lacking = NoFigure {
+        customer: 4,
+        ..LACKING
+    };
+    let settled = desk.settle_marked(PLANNED, &[1; 5]);
     tally.note(
-        rt,
         "the customer without a figure is named",
-        lacking,
-        desk.settle_marked(PLANNED, &[1; 5]),
+        Err(Refusal::Scheduled(lacking)),
+        settled,
     )?;
-    tally.note(
-        rt,
-        "one who takes no part is not asked",
-        Outcome::Granted,
-        desk.settle_marked(PLANNED, &[1; 4]),
-    )
+    let settled = desk.settle_marked(PLANNED, &[1; 4]);
+    tally.note("one who takes no part is not asked", Ok(()), settled)
 }

@@ -14,48 +14,49 @@ mod sources;
 use outcome::Tally;
 
 // Records and sources.
-fn of_sources(rt: &HostRuntime, tally: &mut Tally) -> anyhow::Result<()> {
-    records::intervals(rt, tally)?;
-    records::registers(rt, tally)?;
-    records::left_out(rt, tally)?;
-    sources::methods(rt, tally)?;
-    sources::means(rt, tally)?;
-    sources::reach(rt, tally)?;
-    sources::profiles(rt, tally)?;
-    sources::filed(rt, tally)?;
-    sources::adjusted(rt, tally)?;
-    sources::adjusting_days(rt, tally)
+fn of_sources(tally: &mut Tally) -> anyhow::Result<()> {
+    records::intervals(tally)?;
+    records::registers(tally)?;
+    records::left_out(tally)?;
+    sources::methods(tally)?;
+    sources::means(tally)?;
+    sources::reach(tally)?;
+    sources::profiles(tally)?;
+    sources::filed(tally)?;
+    sources::adjusted(tally)?;
+    sources::adjusting_days(tally)
 }
 
 // Lines, openings and the book's calls.
-fn of_books(rt: &HostRuntime, tally: &mut Tally) -> anyhow::Result<()> {
-    lines::order_hours(rt, tally)?;
-    lines::limits(rt, tally)?;
-    lines::first_tests(rt, tally)?;
-    lines::figures(rt, tally)?;
-    lines::marks(rt, tally)?;
-    openings::months(rt, tally)?;
-    openings::resources(rt, tally)?;
-    openings::counts(rt, tally)?;
-    calls::telling(rt, tally)?;
-    calls::lines(rt, tally)?;
-    calls::allotting(rt, tally)?;
-    calls::shares(rt, tally)?;
-    calls::unopened(rt, tally)?;
-    calls::lists(rt, tally)?;
-    slips::corrections(rt, tally)?;
-    slips::other_books(rt, tally)?;
-    sheets::sheets(rt, tally)?;
-    sheets::head_lines(rt, tally)
+fn of_books(tally: &mut Tally) -> anyhow::Result<()> {
+    lines::order_hours(tally)?;
+    lines::limits(tally)?;
+    lines::first_tests(tally)?;
+    lines::figures(tally)?;
+    lines::marks(tally)?;
+    openings::months(tally)?;
+    openings::resources(tally)?;
+    openings::counts(tally)?;
+    calls::telling(tally)?;
+    calls::lines(tally)?;
+    calls::allotting(tally)?;
+    calls::shares(tally)?;
+    calls::unopened(tally)?;
+    calls::lists(tally)?;
+    slips::corrections(tally)?;
+    slips::other_books(tally)?;
+    sheets::sheets(tally)?;
+    sheets::head_lines(tally)
 }
 
 fn run(rt: &HostRuntime) -> anyhow::Result<()> {
     let mut tally = Tally {
+        rt,
         cases: 0,
         differences: 0,
     };
-    of_sources(rt, &mut tally)?;
-    of_books(rt, &mut tally)?;
+    of_sources(&mut tally)?;
+    of_books(&mut tally)?;
     println!(rt; "cases {}, differences {}", tally.cases, tally.differences)?;
     Ok(())
 }

@@ -1,9 +1,11 @@
 // Openings at their edges.
-use crate::desk::Desk;
-use crate::outcome::{Outcome, Tally, answered};
+use crate::desk::{Desk, MAY, STANDARD};
+use crate::outcome::Tally;
+use book::book::Book;
 use book::open::Opening;
 use book::register::Registration;
-use table::lines::{BuyerLine, ResourceLine};
+use refusal::Refusal;
+use table::lines::BuyerLine;
 
 // A resource as it is named.
 fn named(kind: u32, aggregator: u32, customers: u32) -> Registration {
@@ -15,165 +17,274 @@ fn named(kind: u32, aggregator: u32, customers: u32) -> Registration {
 }
 
 // Months and the lengths of their classes.
-pub fn months(rt: &HostRuntime, tally: &mut Tally) -> anyhow::Result<()> {
-    let classes = [0; 32];
-    for (what, month, days, expected) in [
-        ("month 0", 0, 31, Outcome::Refused(1)),
-        ("month 1 with 31 days", 1, 31, Outcome::Granted),
-        ("month 1 with 30 days", 1, 30, Outcome::Refused(2)),
-        ("month 1 with 32 days", 1, 32, Outcome::Refused(2)),
-        ("February with 27 days", 2, 27, Outcome::Refused(2)),
-        ("February with 28 days", 2, 28, Outcome::Granted),
-        ("February with 29 days", 2, 29, Outcome::Granted),
-        ("February with 30 days", 2, 30, Outcome::Refused(2)),
-        ("April with 30 days", 4, 30, Outcome::Granted),
-        ("April with 31 days", 4, 31, Outcome::Refused(2)),
-        ("month 12 with 31 days", 12, 31, Outcome::Granted),
-        ("month 13", 13, 31, Outcome::Refused(1)),
+pub fn months(tally: &mut Tally) -> anyhow::Result<()> {
+    let days = [0; 32];
+    for (what, month, classes, expected) in [
+        ("month 0", 0, &days[..31], Err(Refusal::BadMonth)),
+        ("month 1 with 31 days", 1, &days[..31], Ok(())),
+        (
+            "month 1 with 30 days",
+            1,
+            &days[..30],
+            Err(Refusal::BadClasses),
+        ),
+        ("month 1 with 32 days", 1, &days, Err(Refusal::BadClasses)),
+        (
+            "February with 27 days",
+            2,
+            &days[..27],
+            Err(Refusal::BadClasses),
+        ),
+        ("February with 28 days", 2, &days[..28], Ok(())),
+        ("February with 29 days", 2, &days[..29], Ok(())),
+        (
+            "February with 30 days",
+            2,
+            &days[..30],
+            Err(Refusal::BadClasses),
+        ),
+        ("April with 30 days", 4, &days[..30], Ok(())),
+        (
+            "April with 31 days",
+            4,
+            &days[..31],
+            Err(Refusal::BadClasses),
+        ),
+        ("month 12 with 31 days", 12, &days[..31], Ok(())),
+        ("month 13", 13, &days[..31], Err(Refusal::BadMonth)),
         (
             "month 13 with no days: 1 comes before 2",
             13,
-            0,
-            Outcome::Refused(1),
+            &[],
+            Err(Refusal::BadMonth),
         ),
     ] {
         let mut desk = Desk::new();
-        let length: usize = days;
-        tally.note(
-            rt,
-            what,
-            expected,
-            desk.open(month, &classes[0..length.min(32)], 1, 1),
-        )?;
+        let opening = Opening {
+            month,
+            classes,
+            ..MAY
+        };
+        tally.note(what, expected, desk.open(opening))?;
     }
     let mut desk = Desk::new();
-    tally.note(
-        rt,
-        "a class byte of 2",
-        Outcome::Refused(2),
-        desk.open(2, &[2; 28], 1, 1),
-    )?;
-    tally.note(
-        rt,
-        "opened after a refusal",
-        Outcome::Granted,
-        desk.open(2, &[1; 28], 1, 1),
-    )?;
-    let again = desk.open(0, &[2; 28], 9, 9);
-    tally.note(
-        rt,
-        "opened again: 9 comes before all",
-        Outcome::Refused(9),
-        again,
-    )
-}
-
-// Kinds, customers and aggregators.
-pub fn resources(rt: &HostRuntime, tally: &mut Tally) -> anyhow::Result<()> {
-    let bad = Outcome::Refused(5);
-    for (what, kind, aggregator, customers, expected) in [
-        ("kind 0", 0, 12, 1, bad),
-        ("kind 1", 1, 12, 1, Outcome::Granted),
-        ("kind 4", 4, 12, 1, Outcome::Granted),
-        ("kind 5", 5, 12, 1, bad),
-        ("aggregator 0", 1, 0, 1, bad),
-        ("aggregator 1", 1, 1, 1, Outcome::Granted),
-        ("aggregator 99", 1, 99, 1, Outcome::Granted),
-        ("aggregator 100", 1, 100, 1, bad),
-        ("no customer", 1, 12, 0, bad),
-        ("16 customers", 1, 12, 16, Outcome::Granted),
-        ("17 customers", 1, 12, 17, bad),
+    for (what, month, classes, resource, expected) in [
+        (
+            "a class byte of 2",
+            2,
+            [2; 28],
+            STANDARD,
+            Err(Refusal::BadClasses),
+        ),
+        ("opened after a refusal", 2, [1; 28], STANDARD, Ok(())),
+        (
+            "opened again: 9 comes before all",
+            0,
+            [2; 28],
+            named(9, 12, 9),
+            Err(Refusal::AlreadyOpened),
+        ),
     ] {
-        let mut desk = Desk::new();
         let opening = Opening {
-            number: 7,
-            month: 5,
-            classes: &[0; 31],
-            first_day: 0,
-            buyers: 1,
-            resources: &[named(kind, aggregator, customers)],
+            month,
+            classes: &classes,
+            resources: &[resource],
+            ..MAY
         };
-        let got = answered(desk.book.open(opening, &mut desk.lines, &mut desk.charges));
-        tally.note(rt, what, expected, got)?;
+        tally.note(what, expected, desk.open(opening))?;
     }
     Ok(())
 }
 
-// What an opening of May comes to, with so many resources, buyers and places in the two lists.
-fn opened(first_day: u32, count: usize, kind: u32, buyers: u32, short: usize) -> Outcome {
-    let mut desk = Desk::new();
+// Kinds, customers and aggregators.
+pub fn resources(tally: &mut Tally) -> anyhow::Result<()> {
+    for (what, resource, expected) in [
+        ("kind 0", named(0, 12, 1), Err(Refusal::BadResource)),
+        ("kind 1", named(1, 12, 1), Ok(())),
+        ("kind 4", named(4, 12, 1), Ok(())),
+        ("kind 5", named(5, 12, 1), Err(Refusal::BadResource)),
+        ("aggregator 0", named(1, 0, 1), Err(Refusal::BadResource)),
+        ("aggregator 1", named(1, 1, 1), Ok(())),
+        ("aggregator 99", named(1, 99, 1), Ok(())),
+        (
+            "aggregator 100",
+            named(1, 100, 1),
+            Err(Refusal::BadResource),
+        ),
+        ("no customer", named(1, 12, 0), Err(Refusal::BadResource)),
+        ("16 customers", named(1, 12, 16), Ok(())),
+        ("17 customers", named(1, 12, 17), Err(Refusal::BadResource)),
+    ] {
+        let mut desk = Desk::new();
+        let opening = Opening {
+            first_day: 0,
+            buyers: 1,
+            resources: &[resource],
+            ..MAY
+        };
+        tally.note(what, expected, desk.open(opening))?;
+    }
+    Ok(())
+}
+
+// Which of the two lists that an opening gets is a place too short for 16 resources or 8 buyers.
+#[derive(Clone, Copy)]
+enum Short {
+    Neither,
+    Lines,
+    Both,
+}
+
+// What an opening comes to over lists with room for 16 resources and 8 buyers, or a place too short for them.
+fn opened(opening: Opening, short: Short) -> Result<(), Refusal> {
     let mut lines = [None; 11_904];
     let mut charges = [BuyerLine {
         charge: 0,
         refund: 0,
     }; 5_952];
-    let resources = [named(kind, 12, 1); 17];
-    let opening = Opening {
-        number: 7,
-        month: 5,
-        classes: &[0; 31],
-        first_day,
-        buyers,
-        resources: &resources[0..count.min(17)],
+    let (lines_end, charges_end) = match short {
+        Short::Neither => (11_904, 5_952),
+        Short::Lines => (11_903, 5_952),
+        Short::Both => (11_903, 5_951),
     };
-    let lines_end = 11_904 - short.min(1);
-    let charges_end = 5_952 - short.min(2) / 2;
-    answered(
-        desk.book.open(
-            opening,
-            &mut lines[0..lines_end],
-            &mut charges[0..charges_end],
-        ),
+    Book::new().open(
+        opening,
+        &mut lines[..lines_end],
+        &mut charges[..charges_end],
     )
 }
 
 // First day, counts of resources and buyers, and the lists' measure.
-pub fn counts(rt: &HostRuntime, tally: &mut Tally) -> anyhow::Result<()> {
-    for (what, first_day, count, kind, buyers, short, expected) in [
-        ("first day 64", 64, 1, 1, 1, 0, Outcome::Granted),
-        ("first day 65", 65, 1, 1, 1, 0, Outcome::Refused(3)),
-        ("no resource", 0, 0, 1, 1, 0, Outcome::Refused(4)),
+pub fn counts(tally: &mut Tally) -> anyhow::Result<()> {
+    let sound = [STANDARD; 17];
+    let bad = [Registration {
+        kind: 5,
+        ..STANDARD
+    }; 17];
+    let may = Opening {
+        first_day: 0,
+        buyers: 1,
+        ..MAY
+    };
+    for (what, opening, short, expected) in [
+        (
+            "first day 64",
+            Opening {
+                first_day: 64,
+                ..may
+            },
+            Short::Neither,
+            Ok(()),
+        ),
+        (
+            "first day 65",
+            Opening {
+                first_day: 65,
+                ..may
+            },
+            Short::Neither,
+            Err(Refusal::BadFirstDay),
+        ),
+        (
+            "no resource",
+            Opening {
+                resources: &[],
+                ..may
+            },
+            Short::Neither,
+            Err(Refusal::ResourceCount),
+        ),
         (
             "16 resources and 8 buyers over lists as long as the measure",
-            0,
-            16,
-            1,
-            8,
-            0,
-            Outcome::Granted,
+            Opening {
+                buyers: 8,
+                resources: &sound[..16],
+                ..may
+            },
+            Short::Neither,
+            Ok(()),
         ),
-        ("17 resources", 0, 17, 1, 1, 0, Outcome::Refused(4)),
-        ("no buyer", 0, 1, 1, 0, 0, Outcome::Refused(6)),
-        ("9 buyers", 0, 1, 1, 9, 0, Outcome::Refused(6)),
+        (
+            "17 resources",
+            Opening {
+                resources: &sound,
+                ..may
+            },
+            Short::Neither,
+            Err(Refusal::ResourceCount),
+        ),
+        (
+            "no buyer",
+            Opening { buyers: 0, ..may },
+            Short::Neither,
+            Err(Refusal::BuyerCount),
+        ),
+        (
+            "9 buyers",
+            Opening { buyers: 9, ..may },
+            Short::Neither,
+            Err(Refusal::BuyerCount),
+        ),
         (
             "a list of lines one place short",
-            0,
-            16,
-            1,
-            1,
-            1,
-            Outcome::Refused(7),
+            Opening {
+                resources: &sound[..16],
+                ..may
+            },
+            Short::Lines,
+            Err(Refusal::ShortLists),
         ),
         (
             "a list of charges one place short",
-            0,
-            15,
-            1,
-            8,
-            2,
-            Outcome::Refused(7),
+            Opening {
+                buyers: 8,
+                resources: &sound[..15],
+                ..may
+            },
+            Short::Both,
+            Err(Refusal::ShortLists),
         ),
-        ("3 comes before 4", 65, 0, 1, 1, 0, Outcome::Refused(3)),
-        ("4 comes before 5", 0, 17, 5, 1, 0, Outcome::Refused(4)),
-        ("5 comes before 6", 0, 1, 5, 0, 0, Outcome::Refused(5)),
-        ("6 comes before 7", 0, 16, 1, 9, 2, Outcome::Refused(6)),
+        (
+            "3 comes before 4",
+            Opening {
+                first_day: 65,
+                resources: &[],
+                ..may
+            },
+            Short::Neither,
+            Err(Refusal::BadFirstDay),
+        ),
+        (
+            "4 comes before 5",
+            Opening {
+                resources: &bad,
+                ..may
+            },
+            Short::Neither,
+            Err(Refusal::ResourceCount),
+        ),
+        (
+            "5 comes before 6",
+            Opening {
+                buyers: 0,
+                resources: &bad[..1],
+                ..may
+            },
+            Short::Neither,
+            Err(Refusal::BadResource),
+        ),
+        (
+            "6 comes before 7",
+            Opening {
+                buyers: 9,
+                resources: &sound[..16],
+                ..may
+            },
+            Short::Both,
+            Err(Refusal::BuyerCount),
+        ),
     ] {
-        tally.note(
-            rt,
-            what,
-            expected,
-            opened(first_day, count, kind, buyers, short),
-        )?;
+        tally.note(what, expected, opened(opening, short))?;
     }
     Ok(())
 }

@@ -1,101 +1,128 @@
 // What a call comes to, and the noting of a case.
-use refusal::{Cause, Refusal};
+use load::loads::DayClass;
+use refusal::{Cause, NoFigure, Refusal};
 use std::fmt;
 
 // What comes of a call or a question.
 #[derive(Clone, Copy, PartialEq, Eq)]
 pub enum Outcome {
-    Number(i64),
+    Number(i128),
+    Said(bool),
+    Class(DayClass),
     Missing,
     Granted,
-    Refused(u32),
-    Because(u32),
-    Lacking(u32, u32, u32),
+    Refused(Refusal),
+    Because(Cause),
 }
 
+// A yes, a class, a refusal and a cause are printed by their numbers.
 impl fmt::Display for Outcome {
     fn fmt<W: fmt::Write>(&self, f: &mut fmt::Formatter<W>) -> fmt::Result {
         match *self {
             Outcome::Number(n) => write!(f, "{n}"),
+            Outcome::Said(false) | Outcome::Class(DayClass::Workday) => write!(f, "0"),
+            Outcome::Said(true) | Outcome::Class(DayClass::Holiday) => write!(f, "1"),
+            Outcome::Class(DayClass::Neither) => write!(f, "2"),
             Outcome::Missing => write!(f, "missing"),
             Outcome::Granted => write!(f, "granted"),
-            Outcome::Refused(n) => write!(f, "refusal {n}"),
-            Outcome::Because(n) => write!(f, "cause {n}"),
-            Outcome::Lacking(n, customer, cause) => {
-                write!(f, "refusal {n}, customer {customer}, cause {cause}")
+            Outcome::Because(cause) => write!(f, "cause {}", cause.number()),
+            Outcome::Refused(refusal) => {
+                write!(f, "refusal {}", refusal.number())?;
+                if let Refusal::Scheduled(lacking) | Refusal::Mandatory(lacking) = refusal {
+                    let NoFigure { customer, cause } = lacking;
+                    write!(f, ", customer {customer}, cause {}", cause.number())?;
+                }
+                Ok(())
             }
         }
     }
 }
 
+impl From<bool> for Outcome {
+    fn from(yes: bool) -> Outcome {
+        Outcome::Said(yes)
+    }
+}
+
+impl From<DayClass> for Outcome {
+    fn from(class: DayClass) -> Outcome {
+        Outcome::Class(class)
+    }
+}
+
+// A load.
+impl<T: Into<i128>> From<Option<T>> for Outcome {
+    fn from(load: Option<T>) -> Outcome {
+        match load {
+            Some(load) => Outcome::Number(load.into()),
+            None => Outcome::Missing,
+        }
+    }
+}
+
+// A profile or a baseline.
+impl<T: Into<i128>> From<Result<T, Cause>> for Outcome {
+    fn from(figure: Result<T, Cause>) -> Outcome {
+        match figure {
+            Ok(figure) => Outcome::Number(figure.into()),
+            Err(cause) => Outcome::Because(cause),
+        }
+    }
+}
+
+// A call's answer.
+impl<T: Into<Outcome>> From<Result<T, Refusal>> for Outcome {
+    fn from(answer: Result<T, Refusal>) -> Outcome {
+        match answer {
+            Ok(told) => told.into(),
+            Err(refusal) => Outcome::Refused(refusal),
+        }
+    }
+}
+
+impl From<()> for Outcome {
+    fn from(_nothing: ()) -> Outcome {
+        Outcome::Granted
+    }
+}
+
+// An amount of energy or of money.
+impl From<i64> for Outcome {
+    fn from(amount: i64) -> Outcome {
+        Outcome::Number(amount.into())
+    }
+}
+
+// The length of a text.
+impl From<usize> for Outcome {
+    fn from(length: usize) -> Outcome {
+        Outcome::Number(length as i128)
+    }
+}
+
 // How many cases there were, and in how many the two sides differed.
 #[derive(Drop)]
-pub struct Tally {
+pub struct Tally<'a> {
+    pub rt: &'a HostRuntime,
     pub cases: u32,
     pub differences: u32,
 }
 
-impl Tally {
+impl Tally<'_> {
     // Prints a case and counts it.
-    pub fn note(
+    pub fn note<T: Into<Outcome>>(
         &mut self,
-        rt: &HostRuntime,
         what: &str,
-        expected: Outcome,
-        got: Outcome,
+        expected: T,
+        got: T,
     ) -> anyhow::Result<()> {
-        println!(rt; "{what}: expected {expected}, got {got}")?;
+        let expected: Outcome = expected.into();
+        let got: Outcome = got.into();
+        println!(self.rt; "{what}: expected {expected}, got {got}")?;
         self.cases = self.cases.saturating_add(1);
         if expected != got {
             self.differences = self.differences.saturating_add(1);
         }
         Ok(())
     }
-}
-
-// A refusal as an outcome.
-pub fn refused(refusal: Refusal) -> Outcome {
-    match refusal {
-        Refusal::Scheduled(lacking) | Refusal::Mandatory(lacking) => {
-            Outcome::Lacking(refusal.number(), lacking.customer, lacking.cause.number())
-        }
-        _ => Outcome::Refused(refusal.number()),
-    }
-}
-
-// A call's answer as an outcome.
-pub fn answered(answer: Result<(), Refusal>) -> Outcome {
-    match answer {
-        Ok(()) => Outcome::Granted,
-        Err(refusal) => refused(refusal),
-    }
-}
-
-// A load as an outcome.
-pub fn load_of(load: Option<u32>) -> Outcome {
-    match load {
-        Some(load) => Outcome::Number(i64::from(load)),
-        None => Outcome::Missing,
-    }
-}
-
-// A profile as an outcome.
-pub fn profile_of(profile: Result<u32, Cause>) -> Outcome {
-    match profile {
-        Ok(profile) => Outcome::Number(i64::from(profile)),
-        Err(cause) => Outcome::Because(cause.number()),
-    }
-}
-
-// A baseline as an outcome.
-pub fn baseline_of(baseline: Result<i32, Cause>) -> Outcome {
-    match baseline {
-        Ok(baseline) => Outcome::Number(i64::from(baseline)),
-        Err(cause) => Outcome::Because(cause.number()),
-    }
-}
-
-// Yes as 1 and no as 0.
-pub fn said(yes: bool) -> Outcome {
-    Outcome::Number(if yes { 1 } else { 0 })
 }

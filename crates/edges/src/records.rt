@@ -1,21 +1,22 @@
 // Load records at their edges.
-use crate::outcome::{Outcome, Tally, load_of, said};
+use crate::outcome::Tally;
 use load::interval::IntervalRecord;
 use load::left_out::LeftOut;
 use load::loads::{DayClass, LoadRecord};
+use load::places::CustomerHour;
 use load::register::RegisterRecord;
 
-// A class as a number: 0 workday, 1 holiday, 2 neither.
-fn class_of(class: DayClass) -> Outcome {
-    Outcome::Number(match class {
-        DayClass::Workday => 0,
-        DayClass::Holiday => 1,
-        DayClass::Neither => 2,
-    })
+// An hour of a customer's.
+pub fn asked(customer: u32, day: u32, hour: u32) -> CustomerHour {
+    CustomerHour {
+        customer,
+        day,
+        hour,
+    }
 }
 
 // The interval record, whose list ends after the second customer's first hour.
-pub fn intervals(rt: &HostRuntime, tally: &mut Tally) -> anyhow::Result<()> {
+pub fn intervals(tally: &mut Tally) -> anyhow::Result<()> {
     let mut loads = [0; 2305];
     loads[0] = 20_000_000;
     loads[1] = 20_000_001;
@@ -25,62 +26,41 @@ pub fn intervals(rt: &HostRuntime, tally: &mut Tally) -> anyhow::Result<()> {
         loads: &loads,
         classes: &[0, 1, 2],
     };
-    for (what, c, d, h, expected) in [
-        (
-            "interval load 20,000,000",
-            0,
-            0,
-            1,
-            Outcome::Number(20_000_000),
-        ),
-        ("interval load 20,000,001", 0, 0, 2, Outcome::Missing),
+    for (what, asked, expected) in [
+        ("interval load 20,000,000", asked(0, 0, 1), Some(20_000_000)),
+        ("interval load 20,000,001", asked(0, 0, 2), None),
         (
             "interval load of the last day's hour 24",
-            0,
-            95,
-            24,
-            Outcome::Number(5),
+            asked(0, 95, 24),
+            Some(5),
         ),
         (
             "interval load of the next customer's first hour",
-            1,
-            0,
-            1,
-            Outcome::Number(6),
+            asked(1, 0, 1),
+            Some(6),
         ),
-        (
-            "interval load past the list's end",
-            1,
-            0,
-            2,
-            Outcome::Missing,
-        ),
-        ("interval load in hour 0", 1, 0, 0, Outcome::Missing),
-        ("interval load in hour 25", 0, 94, 25, Outcome::Missing),
-        ("interval load on day 96", 0, 96, 1, Outcome::Missing),
-        ("interval load of customer 16", 16, 0, 1, Outcome::Missing),
+        ("interval load past the list's end", asked(1, 0, 2), None),
+        ("interval load in hour 0", asked(1, 0, 0), None),
+        ("interval load in hour 25", asked(0, 94, 25), None),
+        ("interval load on day 96", asked(0, 96, 1), None),
+        ("interval load of customer 16", asked(16, 0, 1), None),
     ] {
-        tally.note(rt, what, expected, load_of(record.load(c, d, h)))?;
+        tally.note(what, expected, record.load(asked))?;
     }
-    for (what, d, expected) in [
-        ("class of byte 0 (workday is 0)", 0, 0),
-        ("class of byte 1 (holiday is 1)", 1, 1),
-        ("class of byte 2 (neither is 2)", 2, 2),
-        ("class of a day without a byte", 3, 2),
-        ("class of day 96", 96, 2),
+    for (what, day, expected) in [
+        ("class of byte 0 (workday is 0)", 0, DayClass::Workday),
+        ("class of byte 1 (holiday is 1)", 1, DayClass::Holiday),
+        ("class of byte 2 (neither is 2)", 2, DayClass::Neither),
+        ("class of a day without a byte", 3, DayClass::Neither),
+        ("class of day 96", 96, DayClass::Neither),
     ] {
-        tally.note(
-            rt,
-            what,
-            Outcome::Number(expected),
-            class_of(record.class(d)),
-        )?;
+        tally.note(what, expected, record.class(day))?;
     }
     Ok(())
 }
 
 // The register record: it goes round at 1,000,000,000.
-pub fn registers(rt: &HostRuntime, tally: &mut Tally) -> anyhow::Result<()> {
+pub fn registers(tally: &mut Tally) -> anyhow::Result<()> {
     let mut readings = [0; 2307];
     readings[0] = 999_999_990;
     readings[1] = 9;
@@ -97,69 +77,52 @@ pub fn registers(rt: &HostRuntime, tally: &mut Tally) -> anyhow::Result<()> {
         readings: &readings,
         classes: &[1],
     };
-    for (what, c, d, h, expected) in [
+    for (what, asked, expected) in [
         (
             "register round from 999,999,990 to 9",
-            0,
-            0,
-            1,
-            Outcome::Number(19),
+            asked(0, 0, 1),
+            Some(19),
         ),
-        (
-            "register load 20,000,000",
-            0,
-            0,
-            2,
-            Outcome::Number(20_000_000),
-        ),
-        ("register load 20,000,001", 0, 0, 3, Outcome::Missing),
+        ("register load 20,000,000", asked(0, 0, 2), Some(20_000_000)),
+        ("register load 20,000,001", asked(0, 0, 3), None),
         (
             "register round from 999,999,999 to 0",
-            0,
-            0,
-            5,
-            Outcome::Number(1),
+            asked(0, 0, 5),
+            Some(1),
         ),
         (
             "register up to a reading of 1,000,000,000",
-            0,
-            0,
-            6,
-            Outcome::Missing,
+            asked(0, 0, 6),
+            None,
         ),
         (
             "register from a reading of 1,000,000,000",
-            0,
-            0,
-            7,
-            Outcome::Missing,
+            asked(0, 0, 7),
+            None,
         ),
-        ("register backward by 1", 0, 0, 8, Outcome::Missing),
+        ("register backward by 1", asked(0, 0, 8), None),
         (
             "register of the next customer's first hour",
-            1,
-            0,
-            1,
-            Outcome::Number(7),
+            asked(1, 0, 1),
+            Some(7),
         ),
-        ("register past the list's end", 1, 0, 2, Outcome::Missing),
-        ("register in hour 0", 1, 0, 0, Outcome::Missing),
-        ("register in hour 25", 0, 0, 25, Outcome::Missing),
-        ("register on day 96", 0, 96, 1, Outcome::Missing),
-        ("register of customer 16", 16, 0, 1, Outcome::Missing),
+        ("register past the list's end", asked(1, 0, 2), None),
+        ("register in hour 0", asked(1, 0, 0), None),
+        ("register in hour 25", asked(0, 0, 25), None),
+        ("register on day 96", asked(0, 96, 1), None),
+        ("register of customer 16", asked(16, 0, 1), None),
     ] {
-        tally.note(rt, what, expected, load_of(record.load(c, d, h)))?;
+        tally.note(what, expected, record.load(asked))?;
     }
     tally.note(
-        rt,
         "register's class of byte 1",
-        Outcome::Number(1),
-        class_of(record.class(0)),
+        DayClass::Holiday,
+        record.class(0),
     )
 }
 
 // The left-out layer, over a lent record.
-pub fn left_out(rt: &HostRuntime, tally: &mut Tally) -> anyhow::Result<()> {
+pub fn left_out(tally: &mut Tally) -> anyhow::Result<()> {
     let record = IntervalRecord {
         loads: &[7; 96],
         classes: &[1, 1, 1, 1],
@@ -168,38 +131,30 @@ pub fn left_out(rt: &HostRuntime, tally: &mut Tally) -> anyhow::Result<()> {
         below: &record,
         marks: &[1, 0, 2],
     };
-    for (what, c, d, expected) in [
-        ("a day left out by byte 1 stands (1 is yes)", 0, 0, 0),
-        ("a day with byte 0 stands", 0, 1, 1),
-        ("a day with byte 2 stands", 0, 2, 1),
-        ("a day without a byte stands", 0, 3, 1),
-        ("day 95 stands", 15, 95, 1),
-        ("day 96 stands", 0, 96, 0),
-        ("a day of customer 16 stands", 16, 1, 0),
+    for (what, customer, day, expected) in [
+        ("a day left out by byte 1 stands (1 is yes)", 0, 0, false),
+        ("a day with byte 0 stands", 0, 1, true),
+        ("a day with byte 2 stands", 0, 2, true),
+        ("a day without a byte stands", 0, 3, true),
+        ("day 95 stands", 15, 95, true),
+        ("day 96 stands", 0, 96, false),
+        ("a day of customer 16 stands", 16, 1, false),
     ] {
-        tally.note(
-            rt,
-            what,
-            Outcome::Number(expected),
-            said(standing.stands(c, d)),
-        )?;
+        tally.note(what, expected, standing.stands(customer, day))?;
     }
     tally.note(
-        rt,
         "a left-out day's load passes",
-        Outcome::Number(7),
-        load_of(standing.load(0, 0, 1)),
+        Some(7),
+        standing.load(asked(0, 0, 1)),
     )?;
     tally.note(
-        rt,
         "a left-out day's class passes",
-        Outcome::Number(1),
-        class_of(standing.class(0)),
+        DayClass::Holiday,
+        standing.class(0),
     )?;
     tally.note(
-        rt,
         "the lent record stands on that day",
-        Outcome::Number(1),
-        said(record.stands(0, 0)),
+        true,
+        record.stands(0, 0),
     )
 }

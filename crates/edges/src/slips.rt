@@ -1,22 +1,23 @@
 // Corrections: slips handed out, spent, refused and handed back.
-ghost use Rattle.std.specs.Prelude.{◌≡◌, IfSome, IfOk};
+ghost use Rattle.std.specs.Prelude.{◌≡◌, IfErr, IfOk};
 ghost use Rattle.book.specs.Seen.{named_by};
-ghost use Rattle.edges.specs.Keeping.{on_desk, Keeps, Finishes};
+ghost use Rattle.std.specs.Fn.{FnOnceReturnsAtMut};
+ghost use Rattle.book.specs.Slips.{Finishes, Keeps};
+ghost use Rattle.edges.specs.Keeping.{on_desk};
+ghost use Rattle.edges.specs.declared.desk.Desk.{Desk};
 
-use crate::calls::allotted;
-use crate::desk::Desk;
-use crate::outcome::{Outcome, Tally, answered, refused};
+use crate::desk::{Desk, on};
+use crate::outcome::{Outcome, Tally};
+use book::month_hour::MonthHour;
 use book::slip::{RefusedSlip, Slip};
+use refusal::Refusal;
 
 impl Desk {
     // Reopens an hour.
-    fn reopen(&mut self, day: u32, hour: u32) -> Result<Slip, Outcome>
+    fn reopen(&mut self, at: MonthHour) -> Result<Slip, Refusal>
         ensures finishes { IfOk result (λ slip. Finishes (on_desk self.new) (named_by slip)) }
     {
-        match self.book.reopen(&self.lines, &mut self.charges, day, hour) {
-            Ok(slip) => Ok(slip),
-            Err(refusal) => Err(refused(refusal)),
-        }
+        self.book.reopen(&self.lines, &mut self.charges, at)
     }
 
     // Finishes an hour with a slip that is known to be good.
@@ -30,157 +31,91 @@ impl Desk {
     }
 
     // Tries to finish with a slip, which comes back if it is refused.
-    fn offer(&mut self, slip: Slip) -> (Outcome, Option<Slip>)
-        ensures back { IfSome result.1 (λ s. s ≡ slip) }
+    fn offer(&mut self, slip: Slip) -> Result<(), RefusedSlip>
+        ensures back { IfErr result (λ refused. refused.slip ≡ slip) }
     {
-        match self.book.finish(&self.lines, &mut self.charges, slip) {
-            Ok(()) => (Outcome::Granted, None),
-            Err(refused_slip) => {
-                let RefusedSlip { refusal, slip } = refused_slip;
-                (refused(refusal), Some(slip))
-            }
-        }
-    }
-
-    // Tells hour 11 of day 1 other energies.
-    fn tell_again(&mut self, total: u32, others: &[u32]) -> Outcome
-        ensures keeps { Keeps (on_desk self.old) (on_desk self.new) }
-    {
-        answered(
-            self.book
-                .tell(&self.lines, &self.charges, 1, 11, total, others),
-        )
-    }
-
-    // Allots hour 11 of day 1.
-    fn allot_again(&mut self) -> Outcome
-        ensures keeps { Keeps (on_desk self.old) (on_desk self.new) }
-    {
-        answered(self.book.allot(&self.lines, &mut self.charges, 1, 11))
+        self.book.finish(&self.lines, &mut self.charges, slip)
     }
 }
 
-// Reopens an hour and finishes it at once.
-fn again(desk: &mut Desk, day: u32, hour: u32) -> Outcome {
-    match desk.reopen(day, hour) {
-        Err(outcome) => outcome,
-        Ok(slip) => {
+// Reopens an hour, does work that leaves its slip good, and finishes it; what the work came to.
+fn corrected<T, F: FnOnce(&mut Desk) -> T>(
+    desk: &mut Desk,
+    at: MonthHour,
+    work: F,
+) -> Result<T, Refusal>
+    requires callable { F.IsAlwaysCallable work }
+    requires keeps { (b c : Desk) (answer : T) → FnOnceReturnsAtMut F.FnOnce work b answer c → Keeps (on_desk b) (on_desk c) }
+{
+    let slip = desk.reopen(at)?;
+    let answer = work(desk);
+    desk.finish(slip);
+    Ok(answer)
+}
+
+// Reopens hour 11 of day 1, offers the slip to another book, and finishes with the slip that comes back; none comes back where it is taken.
+fn offered(desk: &mut Desk, other: &mut Desk) -> Result<[Outcome; 2], Refusal> {
+    let slip = desk.reopen(on(1, 11))?;
+    match other.offer(slip) {
+        Ok(()) => Ok([Outcome::Granted, Outcome::Missing]),
+        Err(RefusedSlip { refusal, slip }) => {
             desk.finish(slip);
-            Outcome::Granted
-        }
-    }
-}
-
-// Reopens hour 11 of day 1, tells it other energies and reads a charge meanwhile, and finishes it.
-fn told_meanwhile(desk: &mut Desk) -> (Outcome, Outcome) {
-    match desk.reopen(1, 11) {
-        Err(outcome) => (outcome, Outcome::Missing),
-        Ok(slip) => {
-            let told = desk.tell_again(10, &[4, 6]);
-            let read = desk.charge(0, 1, 11);
-            desk.finish(slip);
-            (told, read)
-        }
-    }
-}
-
-// Reopens hour 11 of day 1, allots it meanwhile, and finishes it.
-fn allotted_meanwhile(desk: &mut Desk) -> Outcome {
-    match desk.reopen(1, 11) {
-        Err(outcome) => outcome,
-        Ok(slip) => {
-            let answer = desk.allot_again();
-            desk.finish(slip);
-            answer
-        }
-    }
-}
-
-// Reopens hour 11 of day 1, offers the slip to another book, and finishes with the slip that comes back.
-fn offered(desk: &mut Desk, other: &mut Desk) -> (Outcome, Outcome) {
-    match desk.reopen(1, 11) {
-        Err(outcome) => (outcome, Outcome::Missing),
-        Ok(slip) => {
-            let (outcome, back) = other.offer(slip);
-            let Some(again) = back else {
-                return (outcome, Outcome::Missing);
-            };
-            desk.finish(again);
-            (outcome, Outcome::Granted)
+            Ok([Outcome::Refused(refusal), Outcome::Granted])
         }
     }
 }
 
 // Reopening and finishing at their edges.
-pub fn corrections(rt: &HostRuntime, tally: &mut Tally) -> anyhow::Result<()> {
-    let mut desk = allotted();
-    for (what, day, hour, expected) in [
-        ("reopen on day 0", 0, 11, Outcome::Refused(10)),
+pub fn corrections(tally: &mut Tally) -> anyhow::Result<()> {
+    let mut desk = Desk::allotted()?;
+    for (what, at, expected) in [
+        ("reopen on day 0", on(0, 11), Err(Refusal::NoSuchHour)),
         (
             "reopen an hour that is not allotted",
-            1,
-            12,
-            Outcome::Refused(17),
+            on(1, 12),
+            Err(Refusal::HourNotAllotted),
         ),
-        (
-            "reopen an allotted hour and finish it",
-            1,
-            11,
-            Outcome::Granted,
-        ),
-        ("reopen and finish it again", 1, 11, Outcome::Granted),
+        ("reopen an allotted hour and finish it", on(1, 11), Ok(())),
+        ("reopen and finish it again", on(1, 11), Ok(())),
     ] {
-        tally.note(rt, what, expected, again(&mut desk, day, hour))?;
+        tally.note(what, expected, corrected(&mut desk, at, |_desk| ()))?;
     }
-    let n = Outcome::Number(34);
-    tally.note(rt, "buyer 2's charge after that", n, desk.charge(2, 1, 11))?;
-    let (told, read) = told_meanwhile(&mut desk);
-    tally.note(rt, "tell an hour in correction", Outcome::Granted, told)?;
+    let charge = desk.read_charge(2, on(1, 11)).map(|line| line.charge);
+    tally.note("buyer 2's charge after that", Ok(34), charge)?;
+    let (told, read) = corrected(&mut desk, on(1, 11), |desk| {
+        let told = desk.tell(on(1, 11), 10, &[4, 6]);
+        (told, desk.read_charge(0, on(1, 11)).map(|line| line.charge))
+    })?;
+    tally.note("tell an hour in correction", Ok(()), told)?;
     tally.note(
-        rt,
         "read a charge of an hour in correction",
-        Outcome::Refused(17),
+        Err(Refusal::HourNotAllotted),
         read,
     )?;
-    let n = Outcome::Number(40);
+    let charge = desk.read_charge(1, on(1, 11)).map(|line| line.charge);
+    tally.note("buyer 1's charge after the correction", Ok(40), charge)?;
+    let allotted = corrected(&mut desk, on(1, 11), |desk| desk.allot(on(1, 11)))?;
     tally.note(
-        rt,
-        "buyer 1's charge after the correction",
-        n,
-        desk.charge(1, 1, 11),
-    )?;
-    let n = Outcome::Refused(15);
-    tally.note(
-        rt,
         "allot an hour in correction",
-        n,
-        allotted_meanwhile(&mut desk),
+        Err(Refusal::HourInCorrection),
+        allotted,
     )
 }
 
 // Slips of another book.
-pub fn other_books(rt: &HostRuntime, tally: &mut Tally) -> anyhow::Result<()> {
-    let mut desk = allotted();
-    let mut other = Desk::new();
-    let n = Outcome::Refused(18);
-    let (got, finished) = offered(&mut desk, &mut other);
-    tally.note(rt, "an unopened book is offered a slip", n, got)?;
+pub fn other_books(tally: &mut Tally) -> anyhow::Result<()> {
+    let mut desk = Desk::allotted()?;
+    let [refused, finished] = offered(&mut desk, &mut Desk::new())?;
+    let wrong = Outcome::Refused(Refusal::WrongSlip);
+    tally.note("an unopened book is offered a slip", wrong, refused)?;
+    tally.note("the slip handed back is good", Outcome::Granted, finished)?;
+    let [refused, finished] = offered(&mut desk, &mut Desk::allotted()?)?;
     tally.note(
-        rt,
-        "the slip handed back is good",
-        Outcome::Granted,
-        finished,
-    )?;
-    let mut other = allotted();
-    let (got, finished) = offered(&mut desk, &mut other);
-    tally.note(
-        rt,
         "a book of the same number whose hour is not in correction is offered a slip",
-        n,
-        got,
+        wrong,
+        refused,
     )?;
     tally.note(
-        rt,
         "the slip handed back is good again",
         Outcome::Granted,
         finished,

@@ -15,11 +15,11 @@ unreachable-requires g c =
     let withdrawn : State = seen c.tell-told.new.self c.withdraw-withdrawn.new.lines c.allot-untimely.new.charges in
     let again : State = seen c.tell-told.new.self c.settle-again.new.lines c.allot-untimely.new.charges in
     let slip : Slip = named_by c.in_ok-slip.slip in
-    let q : Settling = record { resource = 0; day = c.args.day; hour = c.args.hour; terms = c.args.terms; marks = 1 ∷ []; scheduled = g.S.BaselineSource.meaning c.args.source.now; mandatory = g.S.BaselineSource.meaning c.args.source.now } in
+    let q : Settling = record { resource = 0; day = c.args.at.day; hour = c.args.at.hour; terms = c.args.terms; marks = 1 ∷ []; scheduled = g.S.BaselineSource.meaning c.args.source.now; mandatory = g.S.BaselineSource.meaning c.args.source.now } in
     let taken : State → Type 0 = λ y. refusal (finish slip) y ≡ None in
-    let none : taken untimely = subst taken (sym c.allot-untimely.ensures.book) (finishes_allotted reopened slip c.in_ok-slip.ensures.finishes c.args.day c.args.hour) in
-    let one : taken told = subst taken (sym c.tell-told.ensures.book) (finishes_told untimely slip none c.args.day c.args.hour 10 (4 ∷ 6 ∷ [])) in
+    let none : taken untimely = subst taken (sym c.allot-untimely.ensures.book) (finishes_allotted reopened slip c.in_ok-slip.ensures.finishes c.args.at.day c.args.at.hour) in
+    let one : taken told = subst taken (sym c.tell-told.ensures.book) (finishes_told untimely slip none c.args.at.day c.args.at.hour 10 (4 ∷ 6 ∷ [])) in
     let two : taken settled = subst taken (sym c.settle-settled.ensures.book) (finishes_settled told slip one q) in
-    let three : taken withdrawn = subst taken (sym c.withdraw-withdrawn.ensures.book) (finishes_withdrawn settled slip two 0 c.args.day c.args.hour) in
+    let three : taken withdrawn = subst taken (sym c.withdraw-withdrawn.ensures.book) (finishes_withdrawn settled slip two 0 c.args.at.day c.args.at.hour) in
     let four : taken again = subst taken (sym c.settle-again.ensures.book) (finishes_settled withdrawn slip three q) in
     never_back (refusal (finish slip) again) c.in_ok-slip.slip c.in-Err._refused four c.in-Err.ensures.answer

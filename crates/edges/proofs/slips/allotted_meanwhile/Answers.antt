@@ -1,6 +1,0 @@
-use Rattle.book.specs.Calls.{Slip}
-use Rattle.book.specs.Seen.{named_by}
-use Rattle.edges.proofs.slips.allotted_meanwhile.Goals as goal
-
-pub finish-requires : goal.finish-requires
-finish-requires c = let slip : Slip = named_by c.in-Ok.slip in c.allot_again-answer.ensures.keeps slip c.in-Ok.ensures.finishes
