@@ -1,9 +1,9 @@
 -- The reference days of a customer: which days are looked at, and which are chosen.
-use Rattle.std.specs.Prelude.{ℕ, zero, suc, Bool, cond, List, [], ◌∷◌, take, None, filter, Option}
+use Rattle.std.specs.Prelude.{ℕ, zero, suc, Bool, true, false, cond, List, [], ◌∷◌, take, None, filter, Option}
 use Rattle.std.specs.Option.{option_map, option_to_list}
 use Rattle.std.specs.List.{flat_map}
 use Rattle.load.specs.declared.loads.DayClass.{DayClass}
-use Rattle.load.specs.contracts.loads.DayClassPartialEq.TheImpl as class_eq
+use Rattle.load.specs.declared.loads.DayClass.TheVariants.{Workday, Holiday, Neither}
 use Rattle.load.specs.Meaning.{LoadMeaning}
 use Rattle.baseline.specs.declared.method.Method.{Method}
 use Rattle.baseline.specs.declared.reference.Reference.{Reference}
@@ -13,9 +13,16 @@ abbrev pub days_before : ℕ → List ℕ
 days_before zero = []
 days_before (suc d) = d ∷ days_before d
 
--- what `==` says of two classes
 abbrev pub same_class : DayClass → DayClass → Bool
-same_class = (class_eq.ghosts).eq
+same_class Workday Workday = true
+same_class Workday Holiday = false
+same_class Workday Neither = false
+same_class Holiday Workday = false
+same_class Holiday Holiday = true
+same_class Holiday Neither = false
+same_class Neither Workday = false
+same_class Neither Holiday = false
+same_class Neither Neither = true
 
 -- the days of a class before d, newest first
 abbrev pub class_before : LoadMeaning → DayClass → ℕ → List ℕ
