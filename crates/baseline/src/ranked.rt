@@ -81,32 +81,14 @@ impl<R: LoadRecord> Ranked<R> {
     {
         let mut sum = 0;
         for x in days.iter() {
-            let load = self
-                .loads
-                .load(CustomerHour {
-                    day: x.day,
-                    ..asked
-                })
-                .ok_or(Cause::MissingLoad)?;
+            let on_day = CustomerHour {
+                day: x.day,
+                ..asked
+            };
+            let load = self.loads.load(on_day).ok_or(Cause::MissingLoad)?;
             sum += u64::from(load);
         }
         Ok(rounded_mean_of(sum, days.len() as u64))
-    }
-
-    // The mean in hour `at` over the days chosen for the hour asked.
-    #[tactic(auto, using(crate::proofs::Left::count_left))]
-    fn mean_of_days(&self, asked: CustomerHour, at: u32) -> Result<u32, Cause>
-        ensures value { result ≡ profile_of (R.meaning self.now.loads) self.now.method asked.customer asked.day asked.hour at }
-        ensures bounded { IfOk result (λ v. v ≤ 20000000) }
-    {
-        if !asked.is_in_range() || !is_hour(at) {
-            return Err(Cause::OutOfRange);
-        }
-        let days = self.reference_days(asked);
-        if days.len() < self.method.n {
-            return Err(Cause::TooFewDays);
-        }
-        self.mean_over(asked.in_hour(at), &self.method.left_of(&days))
     }
 }
 
@@ -117,12 +99,20 @@ impl<R: LoadRecord> BaselineSource for Ranked<R> {
         self.loads.load(asked)
     }
 
+    #[tactic(auto, using(crate::proofs::Left::count_left))]
     fn profile(&self, asked: CustomerHour, at: u32) -> Result<u32, Cause> {
-        self.mean_of_days(asked, at)
+        if !asked.is_in_range() || !is_hour(at) {
+            return Err(Cause::OutOfRange);
+        }
+        let days = self.reference_days(asked);
+        if days.len() < self.method.n {
+            return Err(Cause::TooFewDays);
+        }
+        self.mean_over(asked.in_hour(at), &self.method.left_of(&days))
     }
 
     fn baseline(&self, asked: CustomerHour) -> Result<i32, Cause> {
-        let mean = self.mean_of_days(asked, asked.hour)?;
+        let mean = self.profile(asked, asked.hour)?;
         Ok(mean as i32)
     }
 }
