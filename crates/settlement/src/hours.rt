@@ -1,6 +1,6 @@
 // The hours in which a resource takes orders.
-ghost use Rattle.std.specs.Prelude.{◌≡◌};
-ghost use Rattle.settlement.specs.Hours.{takes_order};
+ghost use Rattle.std.specs.Prelude.{◌≡◌, ◌||◌};
+ghost use Rattle.settlement.specs.Hours.{from_to, takes_order};
 
 use crate::terms::Kind;
 use load::loads::DayClass;
@@ -20,6 +20,13 @@ const HOLIDAY_FROM: u32 = 11;
 // The last hour in which orders are taken on holidays.
 const HOLIDAY_TO: u32 = 17;
 
+// Whether orders are taken on the holidays of a month.
+fn is_holiday_month(month: u32) -> bool
+    ensures value { result ≡ from_to 3 5 month || from_to 9 11 month }
+{
+    matches!(month, 3..=5 | 9..=11)
+}
+
 // Whether a resource of a kind takes an order on a day of a class, in a month, in an hour.
 pub fn takes_order(kind: Kind, class: DayClass, month: u32, hour: u32) -> bool
     ensures value { result ≡ takes_order kind class month hour }
@@ -31,7 +38,7 @@ pub fn takes_order(kind: Kind, class: DayClass, month: u32, hour: u32) -> bool
                 && hour != MIDDAY => true,
         Kind::StandardHoliday | Kind::SmallMediumHoliday
             if class == DayClass::Holiday
-                && matches!(month, 3..=5 | 9..=11)
+                && is_holiday_month(month)
                 && (HOLIDAY_FROM..=HOLIDAY_TO).contains(&hour) => true,
         _ => false,
     }
