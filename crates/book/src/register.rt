@@ -22,6 +22,7 @@ pub struct Resource {
 }
 
 // The plain part of a book: its number, its month and days, its resources and buyers.
+// Stays: (d) the classes are the opening's own bytes, as the definitions have them, and one place turns a byte into a `DayClass`.
 #[derive(Clone, Copy, PartialEq, Eq)]
 pub struct Register {
     pub number: u32,
