@@ -112,13 +112,13 @@ fn classes_and_days(rt: HostRuntime) {
         loads: &[],
         classes: &[0, 1, 2],
     };
-    for (day, class) in [
-        (0, DayClass::Workday),
-        (1, DayClass::Holiday),
-        (2, DayClass::Neither),
-        (3, DayClass::Neither),
+    for (day, class, why) in [
+        (0, DayClass::Workday, "byte 0"),
+        (1, DayClass::Holiday, "byte 1"),
+        (2, DayClass::Neither, "another byte"),
+        (3, DayClass::Neither, "past the list's end"),
     ] {
-        assert_eq!(rt; record.class(day), class);
+        assert_eq!(rt; record.class(day), class, "{why}");
     }
     for (customer, day, stands) in [(15, 95, true), (15, 96, false), (16, 95, false)] {
         assert_eq!(rt; record.stands(customer, day), stands);
