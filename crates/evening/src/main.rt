@@ -19,10 +19,7 @@ fn run(buffer: &mut [u8]) -> Result<usize, Refusal>
     ensures bounded { IfOk result (λ n. n ≤ length buffer.old) }
 {
     let mut lines = [None; 744];
-    let mut charges = [BuyerLine {
-        charge: 0,
-        refund: 0,
-    }; 2232];
+    let mut charges = [BuyerLine::default(); 2232];
     let mut book = Book::new();
     book.open(OPENING, &mut lines, &mut charges)?;
     let record = IntervalRecord {

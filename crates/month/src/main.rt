@@ -102,10 +102,7 @@ fn read_again(
 fn run() -> Result<Reconciliation, Refusal> {
     let mut book = Book::new();
     let mut lines = [None; 744];
-    let mut charges = [BuyerLine {
-        charge: 0,
-        refund: 0,
-    }; 2232];
+    let mut charges = [BuyerLine::default(); 2232];
     book.open(OPENING, &mut lines, &mut charges)?;
     let method = "max45".parse()?;
     allot(&mut book, &mut lines, &mut charges, method)?;
