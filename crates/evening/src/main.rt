@@ -8,7 +8,7 @@ use book::book::Book;
 use book::settle::Settling;
 use load::interval::IntervalRecord;
 use refusal::Refusal;
-use sample::{CLASSES, OPENING, PLANNED, SETTLED};
+use sample::{CLASSES, OPENING, PLANNED, SETTLED, loads};
 use sheet::sheet::write_sheet;
 use std::io;
 use std::io::Write;
@@ -23,7 +23,7 @@ fn run(buffer: &mut [u8]) -> Result<usize, Refusal>
     let mut book = Book::new();
     book.open(OPENING, &mut lines, &mut charges)?;
     let record = IntervalRecord {
-        loads: &sample::loads(1_200_000),
+        loads: &loads(1_200_000),
         classes: &CLASSES,
     };
     let source = Ranked::new(record, "max45".parse()?);

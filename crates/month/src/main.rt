@@ -10,7 +10,7 @@ use book::settle::Settling;
 use book::slip::RefusedSlip;
 use load::interval::IntervalRecord;
 use refusal::Refusal;
-use sample::{CLASSES, OPENING, PLANNED, SETTLED};
+use sample::{CLASSES, OPENING, PLANNED, SETTLED, loads};
 use std::io;
 use table::lines::{BuyerLine, ResourceLine};
 
@@ -66,47 +66,51 @@ fn look_again(
     }
 }
 
-// Tells, settles from the meter, and allots the hour.
-fn allot(
+// Tells, settles, and allots the hour.
+fn allot<S: BaselineSource>(
     book: &mut Book,
     lines: &mut [ResourceLine],
     charges: &mut [BuyerLine],
-    method: Method,
+    others: &[u32],
+    source: &S,
 ) -> Result<(), Refusal> {
-    let record = IntervalRecord {
-        loads: &sample::loads(1_200_000),
-        classes: &CLASSES,
-    };
-    let source = Ranked::new(record, method);
-    book.tell(lines, charges, SETTLED, 3, &[1, 1])?;
-    book.settle(lines, charges, &settling(&source))?;
+    book.tell(lines, charges, SETTLED, 3, others)?;
+    book.settle(lines, charges, &settling(source))?;
     book.allot(lines, charges, SETTLED)
 }
 
-// Corrects the hour by another reading of the meter.
-fn read_again(
-    book: &mut Book,
-    lines: &mut [ResourceLine],
-    charges: &mut [BuyerLine],
-    method: Method,
-) -> Result<(), Refusal> {
+// A source over what the meter read.
+fn metered(loads: &[u32], method: Method) -> Ranked<IntervalRecord<'_>> {
     let record = IntervalRecord {
-        loads: &sample::loads(1_100_000),
+        loads,
         classes: &CLASSES,
     };
-    let source = Ranked::new(record, method);
-    correct(book, lines, charges, &[1, 2], &source)
+    Ranked::new(record, method)
 }
 
-// The whole month, and what it comes to.
+// The whole month, and what it comes to; the hour is corrected by another reading of the meter.
 fn run() -> Result<Reconciliation, Refusal> {
     let mut book = Book::new();
     let mut lines = [None; 744];
     let mut charges = [BuyerLine::default(); 2232];
     book.open(OPENING, &mut lines, &mut charges)?;
     let method = "max45".parse()?;
-    allot(&mut book, &mut lines, &mut charges, method)?;
-    read_again(&mut book, &mut lines, &mut charges, method)?;
+    let first = loads(1_200_000);
+    let again = loads(1_100_000);
+    allot(
+        &mut book,
+        &mut lines,
+        &mut charges,
+        &[1, 1],
+        &metered(&first, method),
+    )?;
+    correct(
+        &mut book,
+        &mut lines,
+        &mut charges,
+        &[1, 2],
+        &metered(&again, method),
+    )?;
     look_again(&mut book, &lines, &mut charges)?;
     book.reconcile(&lines, &charges)
 }
