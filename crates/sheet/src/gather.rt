@@ -11,6 +11,7 @@ use arrayvec::ArrayVec;
 use book::book::Book;
 use std::convert::AsSlice;
 use table::lines::{BuyerLine, ResourceLine};
+use table::table::Rows;
 
 // The entries of a sheet: four, four for each of 16 resources, and three for each of eight buyers.
 pub(crate) type Entries = ArrayVec<Entry, 92>;
@@ -39,7 +40,11 @@ fn resource_block(book: &Book, lines: &[ResourceLine], resource: u32) -> [Entry;
         .resources
         .get(resource as usize)
         .map_or(0, |registered| registered.aggregator);
-    let sums = column_sums(book, lines, register.enrolled, resource);
+    let rows = Rows {
+        lines,
+        width: register.enrolled,
+    };
+    let sums = column_sums(book, &rows, resource);
     [
         Entry::new(Key::Resource, resource.into()),
         Entry::new(Key::Aggregator, aggregator.into()),
@@ -53,7 +58,11 @@ fn buyer_block(book: &Book, charges: &[BuyerLine], buyer: u32) -> [Entry; 3]
     ensures value { result ≡ buyer_entries (seen book.now [] charges.now) buyer }
 {
     let register = book.register();
-    let sums = column_sums(book, charges, register.buyers, buyer);
+    let rows = Rows {
+        lines: charges,
+        width: register.buyers,
+    };
+    let sums = column_sums(book, &rows, buyer);
     [
         Entry::new(Key::Payer, buyer.into()),
         Entry::new(Key::Charged, sums.due),
