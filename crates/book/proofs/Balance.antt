@@ -1,6 +1,6 @@
 -- Every run of a book balances.
-use Rattle.std.proofs.Common.{◌≡◌, ℕ, ◌+◌, ◌*◌, ◌<◌, ◌≤◌, Bool, true, false, cond, ◌&&◌, ◌||◌, eqb, ltb, leb, ◌⊎◌, List, [], ◌∷◌, length, get_or, ℤ, pos, ◌+ℤ◌, ◌-ℤ◌, ◌*ℤ◌, ◌<ℤ◌, Some, None, Ok, Err, Option, sym, refl, ap, ◌∙◌, subst, ap₂, inl, inr, ⊎_elim, zero-add, arith}
-use Rattle.std.proofs.lemmas.Bool.{both_ways, cond-false, or_from, le-ltb, and_parts, or_cases, eqb-true, leb-true, not-false, ltb-false, cases_lt}
+use Rattle.std.proofs.Common.{◌≡◌, ℕ, ◌+◌, ◌*◌, ◌<◌, ◌≤◌, Bool, true, false, cond, ◌&&◌, ltb, leb, List, [], ◌∷◌, length, get_or, ℤ, pos, ◌+ℤ◌, ◌-ℤ◌, ◌*ℤ◌, ◌<ℤ◌, Some, None, Ok, Err, Option, sym, refl, ap, ◌∙◌, subst, ap₂, ⊎_elim, zero-add, arith}
+use Rattle.std.proofs.lemmas.Bool.{both_ways, cond-false, or_from, le-ltb, and_parts, leb-true, not-false, ltb-false, cases_lt}
 use Rattle.refusal.specs.declared.Refusal.{Refusal}
 use Rattle.refusal.specs.declared.Refusal.TheVariants.{ShortLists, BadClasses, BadFirstDay, ResourceCount, BuyerCount}
 use Rattle.won.specs.Sums.{total_to}
@@ -12,7 +12,7 @@ use Rattle.table.proofs.Filling.{length_filled, read_filled}
 use Rattle.table.proofs.Rows.{row_within}
 use Rattle.book.specs.declared.energies.Energies.{Energies}
 use Rattle.book.specs.declared.hour.Hour.{Hour}
-use Rattle.book.specs.declared.hour.Hour.TheVariants.{Blank, Told, Allotted, Correcting}
+use Rattle.book.specs.declared.hour.Hour.TheVariants.{Blank}
 use Rattle.book.specs.declared.reconcile.Reconciliation.{Reconciliation}
 use Rattle.book.specs.declared.register.Register.{Register}
 use Rattle.book.specs.Hours.{is_none, is_allotted, is_correcting, energies_in}
@@ -31,16 +31,8 @@ use Rattle.book.proofs.History.{once, Kept, kept_tell, kept_settle, kept_withdra
 
 -- what an accepted opening says
 
-either : (t x y : Bool) → cond t x y ≡ true → (x ≡ true) ⊎ (y ≡ true)
-either true x y e = inl e
-either false x y e = inr e
-
 few_days : (month days : ℕ) → month_has month days ≡ true → days ≤ 31
-few_days month days e =
-    ⊎_elim
-    (λ f. ⊎_elim (λ q. let s = eqb-true days 28 q in omega arith) (λ q. let s = eqb-true days 29 q in omega arith) (or_cases (eqb days 28) (eqb days 29) f))
-    (λ f. ⊎_elim (λ q. let s = eqb-true days 30 q in omega arith) (λ q. let s = eqb-true days 31 q in omega arith) (either ((eqb month 4 || eqb month 6) || (eqb month 9 || eqb month 11)) (eqb days 30) (eqb days 31) f))
-    (either (eqb month 2) (eqb days 28 || eqb days 29) _ e)
+few_days month days e = grind arith
 
 pub record Openable (o : Opening) (b : State) : Type 0 where
   pub days_few : length o.classes ≤ 31
@@ -100,8 +92,7 @@ kept_opened o u ok = record {
     empty h = all_same 744 h Blank
 
     never : (t : Bool) → once (t && false) ≡ 0
-    never true = refl
-    never false = refl
+    never t = grind arith
 
 -- each call, and all calls
 
@@ -122,16 +113,10 @@ all_calls b k [] = k
 all_calls b k (c ∷ cs) = either_way (after b cs) (accepted b cs) c (all_calls b k cs) (refusal c (after b cs)) refl
 
 same_register : (c : Call) (b : State) → (effect c b).register ≡ b.register
-same_register (tell day hour t o) b = refl
-same_register (settle q) b = refl
-same_register (withdraw r day hour) b = refl
-same_register (allot day hour) b = refl
-same_register (reopen day hour) b = refl
-same_register (finish slip) b = refl
+same_register c b = grind arith
 
 register_by : (o : Option Refusal) (c : Call) (b : State) → (state_by o c b).register ≡ b.register
-register_by None c b = same_register c b
-register_by (Some r) c b = refl
+register_by o c b = grind (arith, same_register)
 
 register_after : (b : State) (cs : List Call) → (after b cs).register ≡ b.register
 register_after b [] = refl
@@ -140,18 +125,13 @@ register_after b (c ∷ cs) = register_by (refusal c (after b cs)) c (after b cs
 -- what follows for the hours
 
 allotted_told : (x : Hour Energies) → is_allotted x ≡ true → is_none (energies_in x) ≡ false
-allotted_told Blank q = absurd (both_ways false refl q)
-allotted_told (Told e) q = refl
-allotted_told (Allotted e) q = refl
-allotted_told (Correcting e) q = refl
+allotted_told x e = grind arith
 
 once_some : (t : Bool) → t ≡ ltb 0 (once t)
-once_some true = refl
-once_some false = refl
+once_some t = grind arith
 
 some_energies : (o : Option Energies) → is_none o ≡ false → (e : Energies) × (o ≡ Some e)
-some_energies None n = absurd (both_ways true n refl)
-some_energies (Some e) n = (e, refl)
+some_energies o e = grind arith
 
 -- a share is near by the total told
 near_total : (a : ℤ) (e : Energies) (k : ℕ) (n : ℕ) → SoundEnergies n e → WithinAWon (share a e.purchases k) a e k
@@ -199,8 +179,7 @@ module _ (b : State) (cs : List Call) (k : Kept b cs) where
   refunds_are h a = let m = allotment h a in total_same b.register.buyers _ _ m.refund ∙ add_up _ m.energies m.right
 
   if_allotted : (t : Bool) (x y : ℤ) → (t ≡ true → x ≡ y) → cond t x (pos 0) ≡ cond t y (pos 0)
-  if_allotted true x y e = e refl
-  if_allotted false x y e = refl
+  if_allotted t x y e = grind arith
 
   over_same : (f g : ℕ → ℤ) → ((h : ℕ) → last_allots h cs ≡ true → f h ≡ g h) → over_allotted b.register cs f ≡ over_allotted b.register cs g
   over_same f g e = total_same (hours_of b.register) _ _ (λ h l. if_allotted (last_allots h cs) (f h) (g h) (e h))
@@ -237,10 +216,7 @@ module _ (b : State) (cs : List Call) (k : Kept b cs) where
   held_is h f none amount e = go (is_allotted (hour_at b h)) (last_allots h cs) (k.tells.allots h) e
     where
       go : (t u : Bool) → t ≡ u → (u ≡ true → f (hour_sums b h) ≡ amount h) → f (cond t (hour_sums b h) zeros) ≡ cond u (amount h) (pos 0)
-      go true true q g = g refl
-      go true false q g = absurd (both_ways false refl (sym q))
-      go false true q g = absurd (both_ways false refl q)
-      go false false q g = none
+      go t u q g = grind arith
 
   figures : reconciled b ≡ Ok (by_calls b.register cs)
   figures =

@@ -1,32 +1,29 @@
 -- A slip just handed out can be finished with, and all calls but the finishing of its hour leave that so.
-use Rattle.std.proofs.Common.{◌≡◌, ℕ, ◌+◌, ◌*◌, ◌<◌, ◌≤◌, Bool, true, false, not, ◌||◌, eqb, ltb, ◌≢◌, List, [], ◌∷◌, length, get_or, Some, None, Err, Option, sym, refl, ap, ◌∙◌, ⊎_elim, arith, length-set, get_or-set_other, get_or-set_same}
-use Rattle.std.proofs.lemmas.Bool.{cases_lt, both_ways, and_from, eq-eqb, not-false}
-use Rattle.std.proofs.lemmas.List.{get_or_past, set_past}
+use Rattle.std.proofs.Common.{◌≡◌, ℕ, ◌+◌, ◌*◌, ◌<◌, ◌≤◌, Bool, true, false, not, ◌||◌, ltb, ◌≢◌, List, [], ◌∷◌, length, get_or, Some, None, Err, Option, sym, refl, ap, ◌∙◌, ⊎_elim, arith, length-set, get_or-set_other}
+use Rattle.std.proofs.lemmas.Bool.{cases_lt, both_ways, not-false}
+use Rattle.std.proofs.lemmas.List.{set_past}
 use Rattle.refusal.specs.declared.Refusal.{Refusal}
 use Rattle.refusal.specs.declared.Refusal.TheVariants.{ShortLists, WrongSlip}
 use Rattle.refusal.specs.Tests.{refused_if, first_of}
-use Rattle.table.specs.Lines.{ResourceLine, no_charge}
+use Rattle.table.specs.Lines.{ResourceLine}
 use Rattle.table.specs.declared.lines.BuyerLine.{BuyerLine}
 use Rattle.table.proofs.Filling.{length_filled}
 use Rattle.book.specs.declared.energies.Energies.{Energies}
 use Rattle.book.specs.declared.hour.Hour.{Hour}
-use Rattle.book.specs.declared.hour.Hour.TheVariants.{Blank, Told, Allotted, Correcting}
+use Rattle.book.specs.declared.hour.Hour.TheVariants.{Blank}
 use Rattle.book.specs.declared.slip.Slip as handed
 use Rattle.book.specs.declared.slip.RefusedSlip.{RefusedSlip}
-use Rattle.book.specs.Hours.{is_allotted, is_correcting, told_anew, as_correcting}
-use Rattle.book.specs.State.{State, hours_of, in_month, place, hour_at, short_for}
-use Rattle.book.specs.Calls.{Slip, Settling, Call, named, of_book, slip_for, tests, refusal, effect, state_by, step, with_energies, with_line, with_row, reopened}
+use Rattle.book.specs.Hours.{is_allotted, is_correcting, told_anew}
+use Rattle.book.specs.State.{State, hours_of, place, hour_at, short_for}
+use Rattle.book.specs.Calls.{Slip, Settling, Call, named, of_book, tests, refusal, effect, state_by, step, with_energies, with_line, with_row}
 use Rattle.book.specs.Calls.Call.{tell, settle, withdraw, allot, reopen, finish}
 use Rattle.book.specs.Seen.{back_or}
 use Rattle.book.proofs.Places.{at_place}
 use Rattle.book.proofs.Refused.{passed, not_refused}
-use Rattle.book.proofs.History.{allotted_corrects, anew_correcting}
+use Rattle.book.proofs.History.{anew_correcting}
 
 none_of : (s t u : Bool) → s ≡ false → t ≡ true → u ≡ true → first_of (refused_if s ShortLists ∷ refused_if (not t) WrongSlip ∷ refused_if (not u) WrongSlip ∷ []) ≡ None
-none_of false true true a b c = refl
-none_of true t u a b c = absurd (both_ways true a refl)
-none_of false false u a b c = absurd (both_ways false refl b)
-none_of false true false a b c = absurd (both_ways false refl c)
+none_of s t u e f g = grind arith
 
 -- what a finishing that is not refused says
 record OpenSlip (b : State) (slip : Slip) : Type 0 where
@@ -41,24 +38,6 @@ open_slip b slip e =
 
 finishes : (b : State) (slip : Slip) → OpenSlip b slip → refusal (finish slip) b ≡ None
 finishes b slip o = none_of _ _ _ o.long o.ours o.out
-
--- an allotted hour is in the list
-held_inside : (b : State) (p : ℕ) → is_allotted (hour_at b p) ≡ true → p < length b.hours
-held_inside b p e = ⊎_elim (λ l. l) (λ l. absurd (both_ways (is_allotted (hour_at b p)) (ap is_allotted (get_or_past b.hours p Blank l)) e)) (cases_lt p (length b.hours))
-
--- the slip that a reopening hands out
-pub may_finish : (b : State) (day hour : ℕ) → refusal (reopen day hour) b ≡ None → refusal (finish (slip_for b.register day hour)) (reopened b (place day hour)) ≡ None
-may_finish b day hour e =
-    let pass = passed (tests (reopen day hour) b) e in
-    let s = b.register in
-    let p = place day hour in
-    let inside = not-false _ (not_refused _ _ (pass 1)) in
-    let shut = not-false _ (not_refused _ _ (pass 2)) in
-    finishes (reopened b p) (slip_for s day hour) (record {
-      long = ap (λ n. ltb (length b.lines) (hours_of s * s.enrolled) || ltb n (hours_of s * s.buyers)) (length_filled b.charges (p * s.buyers) s.buyers (λ _. no_charge)) ∙ not_refused _ _ (pass 0);
-      ours = and_from (eqb s.number s.number) (in_month s day hour) (eq-eqb s.number s.number refl) inside;
-      out = ap is_correcting (get_or-set_same b.hours p (as_correcting (hour_at b p)) Blank (held_inside b p shut)) ∙ allotted_corrects (hour_at b p) shut;
-    })
 
 -- energies told for any hour leave the hours in correction
 told_still : (b : State) (h : ℕ) (e : Energies) (slip : Slip) → OpenSlip b slip → OpenSlip (with_energies b h e) slip
@@ -90,10 +69,7 @@ row_still b h x row slip o ne = record {
 
 -- no hour is both allotted and in correction
 one_state : (x : Hour Energies) → is_allotted x ≡ true → is_correcting x ≡ true → ⊥
-one_state Blank a c = both_ways false refl a
-one_state (Told t) a c = both_ways false refl a
-one_state (Allotted t) a c = both_ways false refl c
-one_state (Correcting t) a c = both_ways false refl a
+one_state x e f = grind arith
 
 by : (b : State) (c : Call) (slip : Slip) → refusal (finish slip) b ≡ None → (refusal c b ≡ None → refusal (finish slip) (effect c b) ≡ None) → refusal (finish slip) (step c b).1 ≡ None
 by b c slip e k = go (refusal c b) refl
@@ -129,10 +105,8 @@ module _ (b : State) (slip : Slip) (e : refusal (finish slip) b ≡ None) where
 
 -- then no slip is handed back
 pub never_back : (o : Option Refusal) (slip : handed.Slip) (x : RefusedSlip) → o ≡ None → Err x ≡ back_or o slip → ⊥
-never_back None slip x e q = let z : ◌≡◌ {A = ℕ} 0 1 = cc in omega arith
-never_back (Some r) slip x e q = let z : ◌≡◌ {A = ℕ} 0 1 = cc in omega arith
+never_back o slip x e f = grind arith
 
 -- a slip that is handed back is the one that was given
 pub handed_back : (o : Option Refusal) (slip : handed.Slip) (x : RefusedSlip) → Err x ≡ back_or o slip → x.slip ≡ slip
-handed_back None slip x q = absurd (let z : ◌≡◌ {A = ℕ} 0 1 = cc in omega arith)
-handed_back (Some r) slip x q = let s : x ≡ record { refusal = r; slip = slip } = cc in ap (λ (y : RefusedSlip). y.slip) s
+handed_back o slip x e = grind arith

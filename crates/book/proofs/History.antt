@@ -1,5 +1,6 @@
 -- After every accepted call the book holds what the calls say.
 use Rattle.std.proofs.Common.{◌≡◌, ℕ, ◌+◌, ◌-◌, ◌<◌, Bool, true, false, cond, not, ◌&&◌, eqb, ◌≢◌, List, ◌∷◌, Some, None, Option, sym, refl, ap, ◌∙◌, arith}
+use Rattle.std.proofs.lemmas.Bool.Decides.{nat_tests}
 use Rattle.std.proofs.lemmas.Bool.{eqb-true, eqb-false, eq-eqb, ltb-true, ltb-false, and_parts, and_from, or_parts, not-false, both_ways}
 use Rattle.refusal.specs.declared.Refusal.{Refusal}
 use Rattle.refusal.specs.Tests.{refused_if}
@@ -8,7 +9,7 @@ use Rattle.table.specs.Lines.{no_line}
 use Rattle.table.proofs.Rows.{row_within, read_row}
 use Rattle.book.specs.declared.energies.Energies.{Energies}
 use Rattle.book.specs.declared.hour.Hour.{Hour}
-use Rattle.book.specs.declared.hour.Hour.TheVariants.{Blank, Told, Allotted, Correcting}
+use Rattle.book.specs.declared.hour.Hour.TheVariants.{Blank}
 use Rattle.book.specs.Hours.{is_none, is_allotted, is_correcting, energies_in, told_anew, as_allotted, as_correcting}
 use Rattle.book.specs.State.{State, hours_of, in_month, place, hour_at, line_at, paid_in, fined_in}
 use Rattle.book.specs.Telling.{energies_of}
@@ -24,66 +25,38 @@ use Rattle.book.proofs.Slips.{copies, copies_without, slips_meet}
 -- what a step does to an hour
 
 pub allotted_energies : {E : Type 0} (x : Hour E) → energies_in (as_allotted x) ≡ energies_in x
-allotted_energies Blank = refl
-allotted_energies (Told e) = refl
-allotted_energies (Allotted e) = refl
-allotted_energies (Correcting e) = refl
+allotted_energies x = grind arith
 
 pub correcting_energies : {E : Type 0} (x : Hour E) → energies_in (as_correcting x) ≡ energies_in x
-correcting_energies Blank = refl
-correcting_energies (Told e) = refl
-correcting_energies (Allotted e) = refl
-correcting_energies (Correcting e) = refl
+correcting_energies x = grind arith
 
 told_allots : {E : Type 0} (x : Hour E) → is_none (energies_in x) ≡ false → is_allotted (as_allotted x) ≡ true
-told_allots Blank q = absurd (both_ways true q refl)
-told_allots (Told e) q = refl
-told_allots (Allotted e) q = refl
-told_allots (Correcting e) q = refl
+told_allots x e = grind arith
 
 -- an hour in correction has energies
 pub correcting_told : {E : Type 0} (x : Hour E) → is_correcting x ≡ true → is_none (energies_in x) ≡ false
-correcting_told Blank q = absurd (both_ways false refl q)
-correcting_told (Told e) q = refl
-correcting_told (Allotted e) q = refl
-correcting_told (Correcting e) q = refl
+correcting_told x e = grind arith
 
 none_correcting : {E : Type 0} (x : Hour E) → is_correcting (as_allotted x) ≡ false
-none_correcting Blank = refl
-none_correcting (Told e) = refl
-none_correcting (Allotted e) = refl
-none_correcting (Correcting e) = refl
+none_correcting x = grind arith
 
 none_allotted : {E : Type 0} (x : Hour E) → is_allotted (as_correcting x) ≡ false
-none_allotted Blank = refl
-none_allotted (Told e) = refl
-none_allotted (Allotted e) = refl
-none_allotted (Correcting e) = refl
+none_allotted x = grind arith
 
 pub allotted_corrects : {E : Type 0} (x : Hour E) → is_allotted x ≡ true → is_correcting (as_correcting x) ≡ true
-allotted_corrects Blank q = absurd (both_ways false refl q)
-allotted_corrects (Told e) q = refl
-allotted_corrects (Allotted e) q = refl
-allotted_corrects (Correcting e) q = refl
+allotted_corrects x e = grind arith
 
 not_correcting : {E : Type 0} (x : Hour E) → is_allotted x ≡ true → is_correcting x ≡ false
-not_correcting Blank q = refl
-not_correcting (Told e) q = refl
-not_correcting (Allotted e) q = refl
-not_correcting (Correcting e) q = absurd (both_ways false refl q)
+not_correcting x e = grind arith
 
 pub anew_correcting : {E : Type 0} (x : Hour E) (e : E) → is_correcting (told_anew x e) ≡ is_correcting x
-anew_correcting Blank e = refl
-anew_correcting (Told d) e = refl
-anew_correcting (Allotted d) e = refl
-anew_correcting (Correcting d) e = refl
+anew_correcting x e = grind arith
 
 positive : (n : ℕ) → n ≢ 0 → 0 < n
 positive n ne = omega arith
 
 cond_ap : {X Y : Type 0} (f : X → Y) (t : Bool) (x y : X) → cond t (f x) (f y) ≡ f (cond t x y)
-cond_ap f true x y = refl
-cond_ap f false x y = refl
+cond_ap f t x y = grind arith
 
 -- once if so, else never
 abbrev pub once : Bool → ℕ
@@ -102,13 +75,7 @@ pub record Kept (b : State) (cs : List Call) : Type 0 where
 
 -- a slip of the hour q more or fewer, where p is the hour that changed
 turn : (f : ℕ → ℕ) (o : Bool) (q p n : ℕ) (was new : Bool) → f (once was) ≡ once new → (q ≡ p → n ≡ once (o && was)) → cond (o && eqb q p) (f n) n ≡ cond (eqb q p) (once (o && new)) n
-turn f o q p n was new step here = go o (eqb q p) refl here
-  where
-    go : (u t : Bool) → eqb q p ≡ t → (q ≡ p → n ≡ once (u && was)) → cond (u && t) (f n) n ≡ cond t (once (u && new)) n
-    go true true e h = ap f (h (eqb-true q p e)) ∙ step
-    go true false e h = refl
-    go false true e h = h (eqb-true q p e)
-    go false false e h = refl
+turn f o q p n was new step here = grind (arith, nat_tests)
 
 module _ (b : State) (cs : List Call) (ok : Kept b cs) where
   month : (day hour : ℕ) (r : Refusal) → refused_if (not (in_month b.register day hour)) r ≡ None → in_month b.register day hour ≡ true
@@ -195,11 +162,7 @@ module _ (b : State) (cs : List Call) (ok : Kept b cs) where
 
   -- a cond that keeps one of its ways
   keeps : (m n k : ℕ) (x : ℕ) → (m ≡ n → k ≡ x) → k ≡ cond (eqb m n) x k
-  keeps m n k x e = go (eqb m n) refl
-    where
-      go : (t : Bool) → eqb m n ≡ t → k ≡ cond t x k
-      go true q = e (eqb-true m n q)
-      go false q = refl
+  keeps m n k x e = grind (arith, nat_tests)
 
   pub kept_allot : (day hour : ℕ) → refusal (allot day hour) b ≡ None → Kept (effect (allot day hour) b) (allot day hour ∷ cs)
   kept_allot day hour no-fault =

@@ -5,12 +5,9 @@ mod Sound
 mod Slips
 mod History
 mod Decided
-mod Changed
 mod Charged
 mod Stepped
-mod Telling
 pub mod Finishing
 mod MonthSums
 pub mod Balance
-mod Alls
 mod Entered

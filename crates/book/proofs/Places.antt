@@ -1,15 +1,13 @@
 -- What stands at a place after a write.
-use Rattle.std.proofs.Common.{◌≡◌, ℕ, zero, suc, ◌<◌, Bool, true, false, cond, eqb, ◌≢◌, List, length, get_or, set, replicate, sym, refl, ap, ◌∙◌, subst, get_or-set_other, get_or-set_same}
+use Rattle.std.proofs.Common.{arith, ◌≡◌, ℕ, zero, suc, ◌<◌, Bool, true, false, cond, eqb, ◌≢◌, List, length, get_or, set, replicate, sym, refl, subst}
+use Rattle.std.proofs.lemmas.Bool.Decides.{nat_tests}
+use Rattle.std.proofs.lemmas.Grind.{common_steps}
 use Rattle.std.proofs.lemmas.Bool.{eqb-true, eqb-false}
 
 module _ {X : Type 0} where
   -- one place written, any place read
   read_set : (xs : List X) (p h : ℕ) (v d : X) → p < length xs → get_or (set xs p v) h d ≡ cond (eqb h p) v (get_or xs h d)
-  read_set xs p h v d l = go (eqb h p) refl
-    where
-      go : (t : Bool) → eqb h p ≡ t → get_or (set xs p v) h d ≡ cond t v (get_or xs h d)
-      go true e = ap (λ j. get_or (set xs p v) j d) (eqb-true h p e) ∙ get_or-set_same xs p v d l
-      go false e = get_or-set_other xs p h v d (eqb-false h p e)
+  read_set xs p h v d l = grind (arith, nat_tests, common_steps)
 
   -- by cases on whether it is that place
   pub at_place : (xs : List X) (p h : ℕ) (v d : X) → p < length xs → (P : Bool → X → Type 0) → (h ≡ p → P true v) → (h ≢ p → P false (get_or xs h d)) → P (eqb h p) (get_or (set xs p v) h d)

@@ -1,5 +1,5 @@
 -- What every call leaves true of the book by itself: an allotted hour's charges are the shares of its lines' sums.
-use Rattle.std.proofs.Common.{◌≡◌, ℕ, ◌+◌, ◌*◌, ◌<◌, ◌≤◌, true, false, ◌&&◌, eqb, ◌≢◌, length, ℤ, Some, Option, sym, refl, ap, ◌∙◌, subst, ap₂, arith, length-set}
+use Rattle.std.proofs.Common.{◌≡◌, ℕ, ◌+◌, ◌*◌, ◌<◌, ◌≤◌, true, false, ◌&&◌, eqb, ◌≢◌, length, ℤ, Some, Option, sym, ap, ◌∙◌, subst, ap₂, arith, length-set}
 use Rattle.std.proofs.lemmas.Bool.{both_ways, ne_eqb, cond-false, and_left}
 use Rattle.won.specs.Sums.{total_to}
 use Rattle.won.proofs.Sums.{total_same}
@@ -9,7 +9,7 @@ use Rattle.table.proofs.Filling.{length_filled, read_filled}
 use Rattle.table.proofs.Rows.{row_within, read_row, read_other_row}
 use Rattle.book.specs.declared.energies.Energies.{Energies}
 use Rattle.book.specs.declared.hour.Hour.{Hour}
-use Rattle.book.specs.declared.hour.Hour.TheVariants.{Blank, Told, Allotted, Correcting}
+use Rattle.book.specs.declared.hour.Hour.TheVariants.{Blank}
 use Rattle.book.specs.Hours.{is_allotted, energies_in, told_anew}
 use Rattle.book.specs.State.{State, hours_of, hour_at, line_at, charge_at, paid_in, fined_in}
 use Rattle.book.specs.Calls.{with_energies, with_line, with_row, charges_of, purchases_in}
@@ -35,16 +35,10 @@ some_same d e p = cc
 
 -- telling anew leaves the state, and tells
 pub anew_energies : {E : Type 0} (x : Hour E) (e : E) → energies_in (told_anew x e) ≡ Some e
-anew_energies Blank e = refl
-anew_energies (Told d) e = refl
-anew_energies (Allotted d) e = refl
-anew_energies (Correcting d) e = refl
+anew_energies x e = grind arith
 
 pub anew_allotted : {E : Type 0} (x : Hour E) (e : E) → is_allotted (told_anew x e) ≡ is_allotted x
-anew_allotted Blank e = refl
-anew_allotted (Told d) e = refl
-anew_allotted (Allotted d) e = refl
-anew_allotted (Correcting d) e = refl
+anew_allotted x e = grind arith
 
 -- an hour of the month is one of the 744
 pub within_hours : (b : State) (p : ℕ) → Sound b → p < hours_of b.register → p < length b.hours

@@ -1,5 +1,5 @@
 // An hour of the month, with the energies `E` that were told for it.
-ghost use Rattle.std.specs.Prelude.{◌≡◌, ◌<◌, length, slice_index_or, slice_set};
+ghost use Rattle.std.specs.Prelude.{◌≡◌};
 ghost use Rattle.book.specs.Hours.{is_allotted, told_anew, step_refusal, step_answer, hour_after};
 
 use refusal::Refusal;
@@ -45,6 +45,7 @@ impl<E: Copy> Hour<E> {
         ensures answer { result ≡ step_answer (step_refusal call self.old) self.old }
         ensures hour { self.new ≡ hour_after call self.old }
     {
+        // Stays: (a) the state of an hour and the call are matched together, and the hour is stepped in place.
         match (*self, call) {
             (Hour::Told(energies), Step::Allot) | (Hour::Correcting(energies), Step::Finish) => {
                 *self = Hour::Allotted(energies);
@@ -61,13 +62,4 @@ impl<E: Copy> Hour<E> {
             (_, Step::Finish) => Err(Refusal::WrongSlip),
         }
     }
-}
-
-// Steps one hour among others.
-pub(crate) fn step_at<E: Copy>(hours: &mut [Hour<E>], h: usize, call: Step) -> Result<E, Refusal>
-    requires { h < length hours.old }
-    ensures answer { result ≡ step_answer (step_refusal call (slice_index_or hours.old h Hour.Blank)) (slice_index_or hours.old h Hour.Blank) }
-    ensures hours { hours.new ≡ slice_set hours.old h (hour_after call (slice_index_or hours.old h Hour.Blank)) }
-{
-    hours[h].step(call)
 }

@@ -27,6 +27,7 @@ pub struct Settling<'a, S, M> {
 }
 
 // The class of a day by its number.
+// Stays: (d) a day of the month has two classes, where the sources' conversion of a byte has a third for the other bytes.
 fn class_of(class: u8) -> DayClass
     ensures value { result ≡ class_of class }
 {
@@ -36,14 +37,14 @@ fn class_of(class: u8) -> DayClass
     }
 }
 
-impl Resource {
-    // The resource as its customers and its kind.
-    fn portfolio(&self) -> Portfolio
-        ensures value { result ≡ portfolio_of self.now }
-    {
+// The resource as its customers and its kind.
+impl From<Resource> for Portfolio {
+    ghost from_gives = { λ resource portfolio. portfolio ≡ portfolio_of resource };
+
+    fn from(resource: Resource) -> Portfolio {
         Portfolio {
-            kind: self.kind,
-            customers: self.customers,
+            kind: resource.kind,
+            customers: resource.customers,
         }
     }
 }
@@ -71,11 +72,9 @@ impl Book {
         requires resource_known { settling.now.resource < self.now.register.enrolled }
         ensures value { result ≡ reckon self.now.register (asked_by S.BaselineSource.meaning M.BaselineSource.meaning settling.now) }
     {
-        let portfolio = self.register.resources[settling.resource as usize].portfolio();
-        let slot = self.slot(settling.at);
         let hour = ResourceHour {
-            portfolio,
-            slot,
+            portfolio: Portfolio::from(self.register.resources[settling.resource as usize]),
+            slot: self.slot(settling.at),
             terms: settling.terms,
         };
         hour.settle(settling.scheduled, settling.mandatory, settling.marks)

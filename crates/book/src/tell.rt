@@ -1,16 +1,15 @@
 // Telling an hour's energies.
-ghost use Rattle.std.specs.Prelude.{◌≡◌, ◌<◌, ◌≤◌, List, length, replicate, sum, slice_index, slice_set};
+ghost use Rattle.std.specs.Prelude.{◌≡◌, ◌≤◌, length, replicate, sum, slice_index, slice_set};
 ghost use Rattle.refusal.specs.Tests.{first_of};
-ghost use Rattle.table.specs.Lines.{ResourceLine};
 ghost use Rattle.table.specs.Tables.{filled};
 ghost use Rattle.book.specs.Telling.{energies_tests, energies_of};
-ghost use Rattle.book.specs.Calls.{with_energies, refusal, step};
+ghost use Rattle.book.specs.Calls.{refusal, step};
 ghost use Rattle.book.specs.Calls.Call.{tell};
 ghost use Rattle.book.specs.Seen.{seen, granted_or};
 
 use crate::book::Book;
 use crate::energies::Energies;
-use crate::month_hour::{HourNumber, MonthHour};
+use crate::month_hour::MonthHour;
 use refusal::Refusal;
 use table::lines::{BuyerLine, ResourceLine};
 
@@ -22,11 +21,7 @@ fn total_of(others: &[u32]) -> u64
     requires { length others.now ≤ 7 }
     ensures value { result ≡ sum others.now }
 {
-    let mut all: u64 = 0;
-    for k in 0..others.len() {
-        all += others[k] as u64;
-    }
-    all
+    others.iter().map(|other| u64::from(*other)).sum()
 }
 
 // The retailer's purchase, then the others'.
@@ -35,9 +30,7 @@ fn purchases_of(retailer: u32, others: &[u32]) -> [u32; 8]
     ensures value { result ≡ slice_set (filled (replicate 8 0) 1 (length others.now) (λ k. slice_index others.now k)) 0 retailer }
 {
     let mut purchases = [0; 8];
-    for k in 0..others.len() {
-        purchases[1 + k] = others[k];
-    }
+    purchases[1..1 + others.len()].copy_from_slice(others);
     purchases[0] = retailer;
     purchases
 }
@@ -54,7 +47,7 @@ fn energies(buyers: u32, total: u32, others: &[u32]) -> Result<Energies, Refusal
         return Err(Refusal::PurchaseCount);
     }
     let all = total_of(others);
-    if all > total as u64 {
+    if all > u64::from(total) {
         return Err(Refusal::PurchasesExceedTotal);
     }
     Ok(Energies {
@@ -64,14 +57,6 @@ fn energies(buyers: u32, total: u32, others: &[u32]) -> Result<Energies, Refusal
 }
 
 impl Book {
-    // Notes an hour's energies.
-    fn tell_hour(&mut self, h: HourNumber, energies: Energies)
-        ensures book { (lines : List ResourceLine) (charges : List BuyerLine) → seen self.new lines charges ≡ with_energies (seen self.old lines charges) h.number energies }
-    {
-        let hour = &mut self.hours[h.number as usize];
-        *hour = hour.told(energies);
-    }
-
     // Tells the energies of an hour that is not allotted; they replace those told before.
     pub fn tell(
         &mut self,
@@ -86,7 +71,8 @@ impl Book {
     {
         let h = self.telling_place(lines, charges, at)?;
         let told = energies(self.register.buyers, total, others)?;
-        self.tell_hour(h, told);
+        let hour = &mut self.hours[h.number as usize];
+        *hour = hour.told(told);
         Ok(())
     }
 }

@@ -17,5 +17,5 @@ returns c =
     let row = c.charge_row-row.ensures.value ∙ ap₂ (λ (x y : ℤ). filled (replicate 8 no_charge) 0 8 (charges_of x y c.args.energies.purchases)) paid fined in
     record {
       value = c.put_row.ensures.value
-          ∙ filled_from_row c.args.charges.now c.charge_row-row.result (c.args.h * z.register.buyers) z.register.buyers (charges_of (paid_in b c.args.h) (fined_in b c.args.h) c.args.energies.purchases) z.buyers_few row;
+          ∙ filled_from_row c.args.charges.now c.charge_row-row.result (c.args.h.number * z.register.buyers) z.register.buyers (charges_of (paid_in b c.args.h.number) (fined_in b c.args.h.number) c.args.energies.purchases) z.buyers_few row;
     }
