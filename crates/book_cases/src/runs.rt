@@ -78,10 +78,15 @@ fn corrections_in_an_order_nobody_planned(rt: HostRuntime) -> Result<(), Fail> {
 fn a_slip_is_of_one_book(rt: HostRuntime) -> Result<(), Fail> {
     let mut desk = Desk::prepared()?;
     let mut other = Book::new();
+    let Desk {
+        book,
+        lines,
+        charges,
+    } = &mut desk;
     let answer = offer_elsewhere(
-        &mut desk.book,
-        &desk.lines,
-        &mut desk.charges,
+        book,
+        lines,
+        charges,
         &mut other,
         &[OLD_LINE; 1],
         &mut [OLD; 1],

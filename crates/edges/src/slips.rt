@@ -24,10 +24,9 @@ impl Desk {
     fn finish(&mut self, slip: Slip)
         requires { Finishes (on_desk self.old) (named_by slip) }
     {
-        match self.book.finish(&self.lines, &mut self.charges, slip) {
-            Ok(()) => {}
-            Err(_refused) => unreachable(),
-        }
+        self.book
+            .finish(&self.lines, &mut self.charges, slip)
+            .unwrap();
     }
 
     // Tries to finish with a slip, which comes back if it is refused.
