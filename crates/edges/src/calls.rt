@@ -1,6 +1,7 @@
 // The book's calls at their edges, each refusal in its order, and the shares.
 use crate::desk::{BEYOND, Desk, NO_CUTS, PLANNED, on};
 use crate::outcome::Tally;
+use book::reconcile::Reconciliation;
 use refusal::Refusal;
 use settlement::terms::Terms;
 
@@ -330,7 +331,7 @@ pub fn unopened(tally: &mut Tally) -> anyhow::Result<()> {
     tally.note(
         "unopened: reconcile over no lists gives nothing (1 is yes)",
         true,
-        sums.payments == 0 && sums.fines == 0 && sums.charges == 0 && sums.refunds == 0,
+        sums == Reconciliation::default(),
     )
 }
 

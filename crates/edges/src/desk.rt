@@ -79,6 +79,7 @@ pub struct Desk {
     pub charges: [BuyerLine; 2233],
 }
 
+// Stays: the calls forward to the book's one by one, since each line shows which of the two lists its call may write.
 impl Desk {
     // A book not yet opened.
     pub fn new() -> Desk {
