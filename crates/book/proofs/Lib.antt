@@ -10,5 +10,4 @@ mod Stepped
 pub mod Finishing
 mod MonthSums
 pub mod Balance
-mod Alls
 mod Entered

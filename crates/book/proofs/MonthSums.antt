@@ -40,7 +40,7 @@ module _ (a b : ℤ) (u : nat_abs a ≤ 2 ^ 100) (v : nat_abs b ≤ 2 ^ 100) whe
   same : to_z w128 (of_z w128 a) +ℤ to_z w128 (of_z w128 b) ≡ a +ℤ b
   same = ap₂ ◌+ℤ◌ (to_z-of_z w128 a (wide_fits a (omega arith))) (to_z-of_z w128 b (wide_fits b (omega arith)))
 
-  pub plus_fits : SFits w128 (to_z w128 (of_z w128 a) +ℤ to_z w128 (of_z w128 b))
+  plus_fits : SFits w128 (to_z w128 (of_z w128 a) +ℤ to_z w128 (of_z w128 b))
   plus_fits = subst (SFits w128) (sym same) (wide_fits (a +ℤ b) both)
 
   pub plus_is : to_z w128 (of_z w128 (to_z w128 (of_z w128 a) +ℤ to_z w128 (of_z w128 b))) ≡ a +ℤ b

@@ -8,12 +8,9 @@ use Rattle.book.specs.Telling.{energies_of, purchase}
 use Rattle.book.proofs.Places.{all_same}
 
 -- f 0 + f 1 + .. + f (n - 1)
-abbrev pub sum_to : ℕ → (ℕ → ℕ) → ℕ
+abbrev sum_to : ℕ → (ℕ → ℕ) → ℕ
 sum_to zero f = 0
 sum_to (suc n) f = sum_to n f + f n
-
-pub sum_more : (n : ℕ) (f : ℕ → ℕ) → sum_to (n + 1) f ≡ sum_to n f + f n
-sum_more n f = ap (λ m. sum_to m f) (add-one n)
 
 sum_same : (n : ℕ) (f g : ℕ → ℕ) → ((k : ℕ) → k < n → f k ≡ g k) → sum_to n f ≡ sum_to n g
 sum_same zero f g h = refl
@@ -31,7 +28,7 @@ sum_past n (suc m) f h =
     let e : n + suc m ≡ suc (n + m) = omega arith in
     ap (λ k. sum_to k f) e ∙ (let a = sum_past n m f h in let b = h (n + m) (omega arith) in omega arith)
 
-pub sum_of : (xs : List ℕ) → sum_to (length xs) (λ k. get_or xs k 0) ≡ sum xs
+sum_of : (xs : List ℕ) → sum_to (length xs) (λ k. get_or xs k 0) ≡ sum xs
 sum_of [] = refl
 sum_of (x ∷ xs) = sum_front (length xs) (λ k. get_or (x ∷ xs) k 0) ∙ (let a = sum_of xs in let b = sum_by-cons (λ y. y) x xs in omega arith)
 

@@ -1,5 +1,6 @@
 -- Opening a book: what it is tested for, and what it leaves.
-use Rattle.std.specs.Prelude.{ℕ, zero, suc, ◌*◌, Bool, true, cond, not, ◌&&◌, ◌||◌, List, [], ◌∷◌, length, replicate, Some, None, Option, ◌==◌, nat_lt, slice_index, slice_index_or}
+use Rattle.std.specs.Prelude.{ℕ, ◌*◌, Bool, cond, not, ◌&&◌, ◌||◌, List, [], ◌∷◌, length, replicate, Some, None, Option, ◌==◌, nat_lt, slice_index, slice_index_or}
+use Rattle.std.specs.List.{list_all}
 use Rattle.refusal.specs.declared.Refusal.{Refusal}
 use Rattle.refusal.specs.declared.Refusal.TheVariants.{BadMonth, BadClasses, BadFirstDay, ResourceCount, BadResource, BuyerCount, AlreadyOpened, ShortLists}
 use Rattle.refusal.specs.Tests.{refused_if, first_of}
@@ -25,11 +26,6 @@ pub record Opening : Type 0 where
   pub buyers : ℕ
   pub resources : List Registration
 
--- f holds of 0 to n - 1
-abbrev pub all_to : ℕ → (ℕ → Bool) → Bool
-all_to zero f = true
-all_to (suc n) f = all_to n f && f n
-
 -- a month can have so many days: February 28 or 29
 abbrev pub month_has : ℕ → ℕ → Bool
 month_has month days =
@@ -38,7 +34,7 @@ month_has month days =
 
 -- each day is a workday, 0, or a holiday, 1
 abbrev pub plain_classes : List ℕ → Bool
-plain_classes classes = all_to (length classes) (λ d. nat_lt (slice_index classes d) 2)
+plain_classes classes = list_all (λ class. nat_lt class 2) classes
 
 abbrev pub no_registration : Registration
 no_registration = record { kind = 0; aggregator = 0; customers = 0 }
@@ -48,7 +44,7 @@ abbrev pub sound_resource : Registration → Bool
 sound_resource r = from_to 1 4 r.kind && (from_to 1 16 r.customers && from_to 1 99 r.aggregator)
 
 abbrev pub sound_resources : List Registration → Bool
-sound_resources rs = all_to (length rs) (λ i. sound_resource (slice_index_or rs i no_registration))
+sound_resources rs = list_all sound_resource rs
 
 -- what a book keeps of a resource
 abbrev pub kind_or_standard : Option Kind → Kind

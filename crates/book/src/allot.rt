@@ -18,17 +18,15 @@ use crate::rows::{clear_row, put_row};
 use crate::slip::{RefusedSlip, Slip};
 use refusal::Refusal;
 use share::share_out;
+use std::array;
 use table::lines::{BuyerLine, ResourceLine};
-use table::table::{Sums, row_sums};
+use table::table::{Rows, Sums};
 
 // The shares of an amount, by the purchases.
 fn shares_of(amount: i64, purchases: [u32; 8]) -> [i64; 16]
     ensures value { result ≡ shares amount purchases 16 }
 {
-    match share_out(amount, &purchases) {
-        Some(shares) => shares,
-        None => [0; 16],
-    }
+    share_out(amount, &purchases).unwrap_or([0; 16])
 }
 
 // The charges of what is paid, and the refunds of what is fined, by the purchases.
@@ -37,17 +35,10 @@ fn charge_row(paid: i64, fined: i64, purchases: [u32; 8]) -> [BuyerLine; 8]
 {
     let charges = shares_of(paid, purchases);
     let refunds = shares_of(fined, purchases);
-    let mut row = [BuyerLine {
-        charge: 0,
-        refund: 0,
-    }; 8];
-    for k in 0..8 {
-        row[k] = BuyerLine {
-            charge: charges[k],
-            refund: refunds[k],
-        };
-    }
-    row
+    array::from_fn(|k| BuyerLine {
+        charge: charges[k],
+        refund: refunds[k],
+    })
 }
 
 impl Book {
@@ -66,7 +57,11 @@ impl Book {
         ensures back { result.back ≡ total_to self.now.register.enrolled (λ k. fined_of (slice_index_or lines.now (h.number * self.now.register.enrolled + k) no_line)) }
         ensures bounded { (unsigned_abs result.due ≤ 2 ^ 36) × (unsigned_abs result.back ≤ 2 ^ 36) }
     {
-        row_sums(lines, self.register.enrolled, h.number)
+        Rows {
+            lines,
+            width: self.register.enrolled,
+        }
+        .sums(h.number)
     }
 
     // Writes each buyer's charge and refund of an hour.

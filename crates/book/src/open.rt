@@ -7,7 +7,7 @@ use crate::book::Book;
 use crate::energies::Energies;
 use crate::hour::Hour;
 use crate::register::{Register, Registration, entered_classes};
-use crate::rows::{clear_charges, clear_lines};
+use crate::rows::clear;
 use refusal::Refusal;
 use table::lines::{BuyerLine, ResourceLine};
 
@@ -43,12 +43,7 @@ fn month_has(month: u32, days: usize) -> bool
 fn plain_classes(classes: &[u8]) -> bool
     ensures value { result ≡ plain_classes classes.now }
 {
-    for d in 0..classes.len() {
-        if classes[d] > 1 {
-            return false;
-        }
-    }
-    true
+    classes.iter().all(|class| *class < 2)
 }
 
 impl Registration {
@@ -69,12 +64,7 @@ impl Registration {
 fn sound_resources(resources: &[Registration]) -> bool
     ensures value { result ≡ sound_resources resources.now }
 {
-    for i in 0..resources.len() {
-        if !resources[i].is_sound() {
-            return false;
-        }
-    }
-    true
+    resources.iter().all(|resource| resource.is_sound())
 }
 
 impl<'a> Opening<'a> {
@@ -84,14 +74,16 @@ impl<'a> Opening<'a> {
         requires resources_few { length self.resources.now ≤ 16 }
         ensures value { result ≡ register_of (told_by self.entry) }
     {
-        let mut register = Register::blank();
-        register.number = self.number;
-        register.month = self.month;
-        register.days = self.classes.len() as u32;
-        register.classes = entered_classes(self.classes);
-        register.first_day = self.first_day;
-        register.enrolled = self.resources.len() as u32;
-        register.buyers = self.buyers;
+        let mut register = Register {
+            number: self.number,
+            month: self.month,
+            days: self.classes.len() as u32,
+            classes: entered_classes(self.classes),
+            first_day: self.first_day,
+            enrolled: self.resources.len() as u32,
+            buyers: self.buyers,
+            ..Register::blank()
+        };
         register.enter_all(self.resources);
         register
     }
@@ -165,8 +157,8 @@ impl Book {
     {
         let register = opening.register();
         let hours = register.days * 24;
-        clear_lines(lines, register.enrolled, hours);
-        clear_charges(charges, register.buyers, hours);
+        clear(lines, register.enrolled, hours);
+        clear(charges, register.buyers, hours);
         *self = Book {
             register,
             hours: blank_hours(),
@@ -183,12 +175,8 @@ impl Book {
         ensures answer { result ≡ granted_or (opening_refusal (told_by opening.entry) (seen self.old lines.old charges.old)) tt }
         ensures book { seen self.new lines.new charges.new ≡ after_opening (told_by opening.entry) (seen self.old lines.old charges.old) }
     {
-        match self.may_open(opening, lines, charges) {
-            Ok(()) => {
-                self.begin(opening, lines, charges);
-                Ok(())
-            }
-            Err(refusal) => Err(refusal),
-        }
+        self.may_open(opening, lines, charges)?;
+        self.begin(opening, lines, charges);
+        Ok(())
     }
 }

@@ -8,7 +8,7 @@ use crate::month_hour::MonthHour;
 use refusal::Refusal;
 use settlement::terms::Line;
 use table::lines::{BuyerLine, ResourceLine};
-use table::table::line_at;
+use table::table::Rows;
 
 // What a line says: plan, order, SR, DR, DLR and SLR in Wh, paid and fined in won.
 #[derive(Clone, Copy, PartialEq, Eq, Debug)]
@@ -53,7 +53,11 @@ impl Book {
         ensures value { result ≡ line_read (seen self.now lines.now charges.now) resource at.day at.hour }
     {
         let h = self.resource_place(lines, charges, resource, at)?;
-        match line_at(lines, self.register.enrolled, h.number, resource) {
+        let rows = Rows {
+            lines,
+            width: self.register.enrolled,
+        };
+        match rows.line(h.number, resource) {
             Some(line) => Ok(LineReading::from(line)),
             None => Err(Refusal::NoLine),
         }
@@ -76,6 +80,10 @@ impl Book {
         if !self.hours[h.number as usize].is_allotted() {
             return Err(Refusal::HourNotAllotted);
         }
-        Ok(line_at(charges, self.register.buyers, h.number, buyer))
+        let rows = Rows {
+            lines: charges,
+            width: self.register.buyers,
+        };
+        Ok(rows.line(h.number, buyer))
     }
 }

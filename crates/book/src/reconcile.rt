@@ -7,11 +7,12 @@ ghost use Rattle.book.specs.Seen.{seen};
 
 use crate::book::Book;
 use refusal::Refusal;
+use std::ops::Add;
 use table::lines::{BuyerLine, ResourceLine};
-use table::table::row_sums;
+use table::table::Rows;
 
 // What was paid, fined, charged and refunded, in won.
-#[derive(Clone, Copy, PartialEq, Eq)]
+#[derive(Clone, Copy, PartialEq, Eq, Default)]
 pub struct Reconciliation {
     pub payments: i128,
     pub fines: i128,
@@ -19,21 +20,15 @@ pub struct Reconciliation {
     pub refunds: i128,
 }
 
-// Nothing paid, fined, charged or refunded.
-const NOTHING: Reconciliation = Reconciliation {
-    payments: 0,
-    fines: 0,
-    charges: 0,
-    refunds: 0,
-};
+// Sums are added where each is at most 2 ^ 100 won from nought.
+impl Add for Reconciliation {
+    type Output = Reconciliation;
 
-impl Reconciliation {
-    // These sums with others.
-    fn plus(self, other: Reconciliation) -> Reconciliation
-        requires self_within { AllWithin (2 ^ 100) self }
-        requires other_within { AllWithin (2 ^ 100) other }
-        ensures value { result ≡ added self other }
-    {
+    ghost can_add = { λ a b. AllWithin (2 ^ 100) a × AllWithin (2 ^ 100) b };
+
+    ghost add_gives = { λ a b r. r ≡ added a b };
+
+    fn add(self, other: Reconciliation) -> Reconciliation {
         Reconciliation {
             payments: self.payments + other.payments,
             fines: self.fines + other.fines,
@@ -49,8 +44,16 @@ impl Book {
         ensures value { result ≡ hour_sums (seen self.now lines.now charges.now) h }
         ensures bounded { AllWithin (2 ^ 66) result }
     {
-        let paid = row_sums(lines, self.register.enrolled, h);
-        let charged = row_sums(charges, self.register.buyers, h);
+        let paid = Rows {
+            lines,
+            width: self.register.enrolled,
+        }
+        .sums(h);
+        let charged = Rows {
+            lines: charges,
+            width: self.register.buyers,
+        }
+        .sums(h);
         Reconciliation {
             payments: paid.due,
             fines: paid.back,
@@ -68,17 +71,17 @@ impl Book {
         if self.hours[h as usize].is_allotted() {
             return self.hour_sums(lines, charges, h);
         }
-        NOTHING
+        Reconciliation::default()
     }
 
     // The sums of all hours of the month that are allotted.
     fn month_sums(&self, lines: &[ResourceLine], charges: &[BuyerLine]) -> Reconciliation
         ensures value { result ≡ sums_to (seen self.now lines.now charges.now) (hours_of self.now.register) }
     {
-        let mut sums = NOTHING;
+        let mut sums = Reconciliation::default();
         let hours = self.register.days * 24;
         for h in 0..hours {
-            sums = sums.plus(self.held_sums(lines, charges, h));
+            sums = sums + self.held_sums(lines, charges, h);
         }
         sums
     }

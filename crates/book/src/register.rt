@@ -22,6 +22,7 @@ pub struct Resource {
 }
 
 // The plain part of a book: its number, its month and days, its resources and buyers.
+// Stays: (d) the classes are the opening's own bytes, as the definitions have them, and one place turns a byte into a `DayClass`.
 #[derive(Clone, Copy, PartialEq, Eq)]
 pub struct Register {
     pub number: u32,
@@ -80,8 +81,8 @@ impl Register {
         requires { length registrations.now ≤ 16 }
         ensures value { self.new ≡ with_resources self.old (filled self.old.resources 0 (length registrations.now) (λ i. resource_of (slice_index_or registrations.now i no_registration))) }
     {
-        for i in 0..registrations.len() {
-            self.enter(i, registrations[i]);
+        for (place, registration) in registrations.iter().enumerate() {
+            self.enter(place, *registration);
         }
     }
 }
@@ -92,8 +93,6 @@ pub(crate) fn entered_classes(classes: &[u8]) -> [u8; 31]
     ensures value { result ≡ filled (replicate 31 0) 0 (length classes.now) (λ d. slice_index classes.now d) }
 {
     let mut entered = [0; 31];
-    for d in 0..classes.len() {
-        entered[d] = classes[d];
-    }
+    entered[..classes.len()].copy_from_slice(classes);
     entered
 }

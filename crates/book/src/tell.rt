@@ -24,11 +24,7 @@ fn total_of(others: &[u32]) -> u64
     requires { length others.now ≤ 7 }
     ensures value { result ≡ sum others.now }
 {
-    let mut all: u64 = 0;
-    for k in 0..others.len() {
-        all += others[k] as u64;
-    }
-    all
+    others.iter().map(|other| u64::from(*other)).sum()
 }
 
 // The retailer's purchase, then the others'.
@@ -37,9 +33,7 @@ fn purchases_of(retailer: u32, others: &[u32]) -> [u32; 8]
     ensures value { result ≡ slice_set (filled (replicate 8 0) 1 (length others.now) (λ k. slice_index others.now k)) 0 retailer }
 {
     let mut purchases = [0; 8];
-    for k in 0..others.len() {
-        purchases[1 + k] = others[k];
-    }
+    purchases[1..1 + others.len()].copy_from_slice(others);
     purchases[0] = retailer;
     purchases
 }
@@ -56,7 +50,7 @@ fn energies(buyers: u32, total: u32, others: &[u32]) -> Result<Energies, Refusal
         return Err(Refusal::PurchaseCount);
     }
     let all = total_of(others);
-    if all > total as u64 {
+    if all > u64::from(total) {
         return Err(Refusal::PurchasesExceedTotal);
     }
     Ok(Energies {

@@ -9,7 +9,7 @@ use crate::month_hour::MonthHour;
 use crate::rows::put_line;
 use refusal::Refusal;
 use table::lines::{BuyerLine, ResourceLine};
-use table::table::line_at;
+use table::table::Rows;
 
 impl Book {
     // Takes a resource's line out of an hour that is not allotted.
@@ -25,7 +25,8 @@ impl Book {
     {
         let h = self.line_place(lines, charges, resource, at)?;
         let width = self.register.enrolled;
-        if line_at(lines, width, h.number, resource).is_none() {
+        let rows = Rows { lines, width };
+        if rows.line(h.number, resource).is_none() {
             return Err(Refusal::NoLine);
         }
         put_line(lines, width, h.number, resource, None);

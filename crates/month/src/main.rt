@@ -5,39 +5,25 @@ use baseline::method::Method;
 use baseline::ranked::Ranked;
 use baseline::source::BaselineSource;
 use book::book::Book;
-use book::open::Opening;
 use book::reconcile::Reconciliation;
-use book::register::Registration;
+use book::settle::Settling;
 use book::slip::RefusedSlip;
 use load::interval::IntervalRecord;
 use refusal::Refusal;
-use settlement::terms::Terms;
+use sample::{CLASSES, OPENING, PLANNED, SETTLED};
 use std::io;
 use table::lines::{BuyerLine, ResourceLine};
 
-// Day 1 and hour 11 of the month, which the program settles, allots and corrects.
-const DAY: u32 = 1;
-
-const HOUR: u32 = 11;
-
-// A plan of 1,000,000 Wh at 120.50 won per kWh.
-const PLANNED: Terms = Terms {
-    plan: 1_000_000,
-    order: 0,
-    emergency: false,
-    test: false,
-    smp: 12_050,
-    mgp: 0,
-};
-
-// The loads of one customer: 2,000,000 Wh in hour 11 of days 0 to 4, and what was metered on day 5.
-fn loads_with(metered: u32) -> [u32; 2304] {
-    let mut loads = [0; 2304];
-    for day in 0..5 {
-        loads[day * 24 + 10] = 2_000_000;
+// The settling of the month's one resource in its hour, over one source.
+fn settling<S: BaselineSource>(source: &S) -> Settling<'_, S, S> {
+    Settling {
+        resource: 0,
+        at: SETTLED,
+        terms: PLANNED,
+        marks: &[1],
+        scheduled: source,
+        mandatory: source,
     }
-    loads[130] = metered;
-    loads
 }
 
 // Reopens the hour, tells other purchases, settles it anew, and finishes it.
@@ -48,9 +34,9 @@ fn correct<S: BaselineSource>(
     others: &[u32],
     source: &S,
 ) -> Result<(), Refusal> {
-    let slip = book.reopen(lines, charges, DAY, HOUR)?;
-    let told = book.tell(lines, charges, DAY, HOUR, 4, others);
-    let settled = book.settle(lines, charges, 0, DAY, HOUR, PLANNED, &[1], source, source);
+    let slip = book.reopen(lines, charges, SETTLED)?;
+    let told = book.tell(lines, charges, SETTLED, 4, others);
+    let settled = book.settle(lines, charges, &settling(source));
     let finished = book.finish(lines, charges, slip);
     match finished {
         Ok(()) => {}
@@ -66,7 +52,7 @@ fn look_again(
     lines: &[ResourceLine],
     charges: &mut [BuyerLine],
 ) -> Result<(), Refusal> {
-    let slip = book.reopen(lines, charges, DAY, HOUR)?;
+    let slip = book.reopen(lines, charges, SETTLED)?;
     let mut aside = Some(slip);
     let first = aside.take().unwrap();
     let finished = book.finish(lines, charges, first);
@@ -80,27 +66,6 @@ fn look_again(
     }
 }
 
-// Opens the book of May with one resource and three buyers.
-fn open(
-    book: &mut Book,
-    lines: &mut [ResourceLine],
-    charges: &mut [BuyerLine],
-) -> Result<(), Refusal> {
-    let opening = Opening {
-        number: 7,
-        month: 5,
-        classes: &[0; 31],
-        first_day: 5,
-        buyers: 3,
-        resources: &[Registration {
-            kind: 1,
-            aggregator: 12,
-            customers: 1,
-        }],
-    };
-    book.open(opening, lines, charges)
-}
-
 // Tells, settles from the meter, and allots the hour.
 fn allot(
     book: &mut Book,
@@ -108,25 +73,14 @@ fn allot(
     charges: &mut [BuyerLine],
     method: Method,
 ) -> Result<(), Refusal> {
-    let loads = loads_with(1_200_000);
     let record = IntervalRecord {
-        loads: &loads,
-        classes: &[0; 96],
+        loads: &sample::loads(1_200_000),
+        classes: &CLASSES,
     };
     let source = Ranked::new(record, method);
-    book.tell(lines, charges, DAY, HOUR, 3, &[1, 1])?;
-    book.settle(
-        lines,
-        charges,
-        0,
-        DAY,
-        HOUR,
-        PLANNED,
-        &[1],
-        &source,
-        &source,
-    )?;
-    book.allot(lines, charges, DAY, HOUR)
+    book.tell(lines, charges, SETTLED, 3, &[1, 1])?;
+    book.settle(lines, charges, &settling(&source))?;
+    book.allot(lines, charges, SETTLED)
 }
 
 // Corrects the hour by another reading of the meter.
@@ -136,10 +90,9 @@ fn read_again(
     charges: &mut [BuyerLine],
     method: Method,
 ) -> Result<(), Refusal> {
-    let loads = loads_with(1_100_000);
     let record = IntervalRecord {
-        loads: &loads,
-        classes: &[0; 96],
+        loads: &sample::loads(1_100_000),
+        classes: &CLASSES,
     };
     let source = Ranked::new(record, method);
     correct(book, lines, charges, &[1, 2], &source)
@@ -149,12 +102,9 @@ fn read_again(
 fn run() -> Result<Reconciliation, Refusal> {
     let mut book = Book::new();
     let mut lines = [None; 744];
-    let mut charges = [BuyerLine {
-        charge: 0,
-        refund: 0,
-    }; 2232];
-    open(&mut book, &mut lines, &mut charges)?;
-    let method = Method::named("max45")?;
+    let mut charges = [BuyerLine::default(); 2232];
+    book.open(OPENING, &mut lines, &mut charges)?;
+    let method = "max45".parse()?;
     allot(&mut book, &mut lines, &mut charges, method)?;
     read_again(&mut book, &mut lines, &mut charges, method)?;
     look_again(&mut book, &lines, &mut charges)?;

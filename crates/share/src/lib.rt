@@ -15,30 +15,18 @@ fn total_of(weights: &[u32]) -> u64
     ensures value { result ≡ sum weights.now }
     ensures bounded { result < 2 ^ 36 }
 {
-    let mut total = 0u64;
-    for weight in weights {
-        total += *weight as u64;
-    }
-    total
+    weights.iter().map(|weight| u64::from(*weight)).sum()
 }
 
-// The quotient, brought down to a whole number, below nought too.
-fn floor_of(product: i128, total: i128) -> i128
-    requires small { unsigned_abs product ≤ 2 ^ 99 }
-    requires some { (pos 0 <ℤ total) × (total <ℤ pos (2 ^ 64)) }
-    ensures value { result ≡ int_div_euclid product total }
-{
-    product.div_euclid(total)
-}
-
-// The part of the amount that falls on the weight `upto` of `total`, brought down to a whole won.
+// The part of the amount that falls on the weight `upto` of `total`, brought down to a whole won, below nought too.
 fn part_of(amount: i64, upto: u64, total: u64) -> i128
     requires some { 0 < total }
     requires small { upto < 2 ^ 36 }
     ensures value { result ≡ int_div_euclid (amount *ℤ pos upto) (pos total) }
     ensures bounded { unsigned_abs result ≤ 2 ^ 99 }
 {
-    floor_of(amount as i128 * upto as i128, total as i128)
+    let product = i128::from(amount) * i128::from(upto);
+    product.div_euclid(i128::from(total))
 }
 
 // The share of a place whose weight goes from `before` to `upto` of `total`.
@@ -51,15 +39,8 @@ fn share_of(amount: i64, before: u64, upto: u64, total: u64) -> i128
     part_of(amount, upto, total) - part_of(amount, before, total)
 }
 
-// Whether there is a place for each weight.
-fn have_places(weights: &[u32]) -> bool
-    ensures value { result ≡ nat_le (length weights.now) 16 }
-{
-    weights.len() <= PLACES
-}
-
 // The share of each place, 0 past the weights and where all weights are 0; none for more than 16 weights.
-pub fn share_out(amount: i64, weights: &[u32]) -> Option<[i64; 16]>
+pub fn share_out(amount: i64, weights: &[u32]) -> Option<[i64; PLACES]>
     ensures value { result ≡ shared amount weights.now }
     ensures some { length weights.now ≤ 16 → is_some result ≡ true }
     ensures each { IfSome result (EachShare amount weights.now) }
@@ -69,17 +50,18 @@ pub fn share_out(amount: i64, weights: &[u32]) -> Option<[i64; 16]>
     ensures within { IfSome result (WithinAmount amount) }
     ensures bounded { IfSome result (NoFurther amount) }
 {
-    if !have_places(weights) {
+    if weights.len() > PLACES {
         return None;
     }
-    let mut shares = [0i64; 16];
+    let mut shares = [0i64; PLACES];
     let total = total_of(weights);
     if total == 0 {
         return Some(shares);
     }
     let mut before = 0u64;
+    // Stays: (c) after `iter_mut` a proof knows the length of the shares and none of them.
     for (k, weight) in weights.iter().enumerate() {
-        let upto = before + *weight as u64;
+        let upto = before + u64::from(*weight);
         let share = share_of(amount, before, upto, total);
         shares[k] = share as i64;
         before = upto;

@@ -1,60 +1,28 @@
--- Digit by digit.
-use Rattle.std.proofs.Common.{◌≡◌, ℕ, zero, suc, ◌+◌, ◌*◌, ◌/◌, ◌%◌, ◌^◌, ◌<◌, ◌≤◌, true, [], ◌∷◌, ◌++◌, length, ℤ, pos, negsuc, nat_abs, sym, refl, ap, ◌∙◌, inl, inr, arith, length-append}
-use lib.Signed.{lt_z}
-use Rattle.std.proofs.lemmas.Int.{ints}
-use Rattle.std.proofs.lemmas.Bool.{cases_lt, lt-ltb, le-ltb}
+-- What the library writes of a number is its text in a sheet.
+use Rattle.std.proofs.Common.{◌≡◌, ℕ, zero, suc, ◌^◌, ◌<◌, ◌≤◌, ◌∷◌, length, ℤ, pos, negsuc, FitsSigned, sym, ap, ◌∙◌, arith, length-append, to_z, of_z}
+use mir.Syntax.{w128}
+use Rattle.std.specs.Fmt.{signed_decimal}
+use Rattle.std.proofs.lemmas.Bool.{lt-ltb, le-ltb}
+use Rattle.std.proofs.lemmas.Int.{to_z-of_z}
+use Rattle.std.proofs.lemmas.Fmt.{AppendsLastDigit, decimal_digit, decimal_by_steps_wide, decimal_from_appends_wide}
 use Rattle.sheet.specs.Decimal.{digits, decimal, signed}
 
-pub digits_one : (k n : ℕ) → n < 10 → digits k n ≡ (48 + n) ∷ []
-digits_one zero n h = refl
-digits_one (suc k) n h = rw (lt-ltb n 10 h)
+-- a number above nought has no more digits than it is large
+digits_few : (n : ℕ) → n < 10 ^ 64 → 0 < n → length (signed_decimal (pos n)) ≤ n
+digits_few = decimal_by_steps_wide (λ n ds. 0 < n → length ds ≤ n) (λ n h p. p) (λ n ds h f p. simp length-append (omega (arith, f (omega arith))))
 
-pub digits_more : (k n : ℕ) → 10 ≤ n → digits (suc k) n ≡ digits k (n / 10) ++ ((48 + n % 10) ∷ [])
-digits_more k n h = rw (le-ltb n 10 h)
+last_digit_last : AppendsLastDigit digits
+last_digit_last = record { one = λ k n h. rw (lt-ltb n 10 h); more = λ k n h. rw (le-ltb n 10 h) }
 
--- with room for n digits all are written
-enough : (k m n : ℕ) → n ≤ k → n ≤ m → digits k n ≡ digits m n
-enough zero m n h g = sym (digits_one m n (omega arith))
-enough (suc k) zero n h g = digits_one (suc k) n (omega arith)
-enough (suc k) (suc m) n h g =
-    elim (cases_lt n 10) [
-      | inl l ↦ digits_one (suc k) n l ∙ sym (digits_one (suc m) n l)
-      | inr l ↦ digits_more k n l ∙ ap (λ ds. ds ++ ((48 + n % 10) ∷ [])) (enough k m (n / 10) (omega arith) (omega arith)) ∙ sym (digits_more m n l)
-    ]
-
-pub decimal_one : (n : ℕ) → n < 10 → decimal n ≡ (48 + n) ∷ []
+decimal_same : (n : ℕ) → n < 10 ^ 64 → signed_decimal (pos n) ≡ decimal n
 unfolding decimal
-decimal_one n h = digits_one n n h
+decimal_same zero h = decimal_digit 0 (omega arith)
+decimal_same (suc n) h = sym (decimal_from_appends_wide digits last_digit_last (suc n) (suc n) h (digits_few (suc n) h (omega arith)))
 
-pub decimal_more : (n : ℕ) → 10 ≤ n → decimal n ≡ decimal (n / 10) ++ ((48 + n % 10) ∷ [])
-unfolding decimal
-decimal_more zero h = absurd (omega arith)
-decimal_more (suc n) h = digits_more n (suc n) h ∙ ap (λ ds. ds ++ ((48 + suc n % 10) ∷ [])) (enough n (suc n / 10) (suc n / 10) (omega arith) (omega arith))
+signed_same : (z : ℤ) → FitsSigned w128 z → signed_decimal z ≡ signed z
+signed_same (pos n) h = let fits = h.sfits in decimal_same n (omega arith)
+signed_same (negsuc n) h = let fits = h.sfits in ap (λ ds. 45 ∷ ds) (decimal_same (suc n) (omega arith))
 
-pub decimal_length : (n : ℕ) → 10 ≤ n → length (decimal n) ≡ length (decimal (n / 10)) + 1
-decimal_length n h = ap length (decimal_more n h) ∙ length-append (decimal (n / 10)) ((48 + n % 10) ∷ [])
-
--- there is a digit
-pub decimal_some : (n : ℕ) → 0 < length (decimal n)
-decimal_some n =
-    elim (cases_lt n 10) [
-      | inl l ↦ let e = ap length (decimal_one n l) in omega arith
-      | inr l ↦ let e = decimal_length n l in omega arith
-    ]
-
--- and no more than the number is long
-pub decimal_within : (k n : ℕ) → n < 10 ^ suc k → length (decimal n) ≤ suc k
-decimal_within zero n h = let e = ap length (decimal_one n (omega arith)) in omega arith
-decimal_within (suc k) n h =
-    elim (cases_lt n 10) [
-      | inl l ↦ let e = ap length (decimal_one n l) in omega arith
-      | inr l ↦ let e = decimal_length n l in let f = decimal_within k (n / 10) (front k n h) in omega arith
-    ]
-  where
-    front : (k n : ℕ) → n < 10 ^ suc (suc k) → n / 10 < 10 ^ suc k
-    front k n h = let e : 10 ^ suc (suc k) ≡ 10 * 10 ^ suc k = omega arith in omega arith
-
--- a number below nought
-pub below_nought : (z : ℤ) (m : ℕ) → lt_z z (pos 0) ≡ true → m ≡ nat_abs z → 45 ∷ decimal m ≡ signed z
-below_nought (pos n) m h e = absurd (grind (arith, ints))
-below_nought (negsuc n) m h e = ap (λ k. 45 ∷ decimal k) e
+-- the text of a number that a call is handed
+pub number_text : (z : ℤ) → FitsSigned w128 z → signed_decimal (to_z w128 (of_z w128 z)) ≡ signed z
+number_text z h = ap signed_decimal (to_z-of_z w128 z h) ∙ signed_same z h

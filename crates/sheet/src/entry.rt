@@ -2,8 +2,11 @@
 ghost use Rattle.std.specs.Prelude.{◌≡◌, ◌≤◌, length};
 ghost use Rattle.sheet.specs.Text.{key_text};
 
-#[derive(Clone, Copy, PartialEq, Eq, Debug)]
+use itoa::Buffer;
+
+#[derive(Clone, Copy, PartialEq, Eq, Debug, Default)]
 pub enum Key {
+    #[default]
     Book,
     Month,
     Allotted,
@@ -18,7 +21,7 @@ pub enum Key {
 }
 
 // One line: a key and its number.
-#[derive(Clone, Copy)]
+#[derive(Clone, Copy, Default)]
 pub struct Entry {
     pub key: Key,
     pub number: i128,
@@ -26,6 +29,7 @@ pub struct Entry {
 
 impl Key {
     // The key as it is written.
+    // Stays: (d) a sink takes bytes, and Display writes text through a formatter.
     pub fn text(self) -> &'static [u8]
         ensures value { result.now ≡ key_text self }
         ensures bounded { length result.now ≤ 10 }
@@ -43,5 +47,24 @@ impl Key {
             Key::Charged => b"charged",
             Key::Refunded => b"refunded",
         }
+    }
+}
+
+impl Entry {
+    ghost use Rattle.sheet.specs.Decimal.{signed};
+    ghost use Rattle.sheet.specs.Evening.{entry};
+
+    pub(crate) fn new(key: Key, number: i128) -> Entry
+        ensures value { result ≡ entry key number }
+    {
+        Entry { key, number }
+    }
+
+    // The number in decimals.
+    pub(crate) fn decimals<'a>(&self, buffer: &'a mut Buffer) -> &'a str
+        ensures value { result.now ≡ signed self.now.number }
+        ensures bounded { length result.now ≤ 40 }
+    {
+        buffer.format(self.number)
     }
 }

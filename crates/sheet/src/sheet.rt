@@ -5,26 +5,25 @@ ghost use Rattle.sheet.specs.Text.{text_of};
 ghost use Rattle.sheet.specs.Written.{short_buffer, written_by, sheet_answer, sheet_written};
 ghost use Rattle.sheet.specs.Columns.{BalancedSheet};
 
-use crate::entry::{Entry, Key};
-use crate::gather::gather;
+use crate::gather::{Entries, gather};
 use crate::page::Page;
-use crate::write::{room_after, write_lines};
+use crate::write::{text_len, write_lines};
 use book::book::Book;
 use refusal::Refusal;
 use table::lines::{BuyerLine, ResourceLine};
 
 // Writes entries at the buffer's start and answers the text's length; a buffer that is too short stays as it is.
-fn write_entries(entries: &[Entry], buffer: &mut [u8]) -> Result<usize, Refusal>
-    ensures answer { result ≡ granted_or (short_buffer (text_of entries.now) buffer.old) (length (text_of entries.now)) }
-    ensures buffer { buffer.new ≡ written_by (short_buffer (text_of entries.now) buffer.old) (text_of entries.now) buffer.old }
+fn write_entries(entries: &Entries, buffer: &mut [u8]) -> Result<usize, Refusal>
+    ensures answer { result ≡ granted_or (short_buffer (text_of entries.now.items) buffer.old) (length (text_of entries.now.items)) }
+    ensures buffer { buffer.new ≡ written_by (short_buffer (text_of entries.now.items) buffer.old) (text_of entries.now.items) buffer.old }
 {
-    let room = buffer.len();
-    let Some(left) = room_after(entries, room) else {
+    let length = text_len(entries);
+    if buffer.len() < length {
         return Err(Refusal::ShortBuffer);
-    };
+    }
     let mut page = Page { buffer, next: 0 };
     write_lines(&mut page, entries);
-    Ok(room - left)
+    Ok(length)
 }
 
 // Writes the evening sheet of a book and its lists at the buffer's start, and answers its length in bytes.
@@ -42,11 +41,5 @@ pub fn write_sheet(
     if book.lacks_places(lines, charges) {
         return Err(Refusal::ShortLists);
     }
-    let blank = Entry {
-        key: Key::Book,
-        number: 0,
-    };
-    let mut list = [blank; 92];
-    let count = gather(&mut list, book, lines, charges);
-    write_entries(&list[..count], buffer)
+    write_entries(&gather(book, lines, charges), buffer)
 }

@@ -1,5 +1,6 @@
 // Sheets worked by hand, and buffers at their edges.
 use book::book::Book;
+use book::month_hour::MonthHour;
 use book::open::Opening;
 use book::register::Registration;
 use refusal::Refusal;
@@ -34,12 +35,11 @@ fn allot(
     book: &mut Book,
     lines: &[ResourceLine],
     charges: &mut [BuyerLine],
-    day: u32,
-    hour: u32,
+    at: MonthHour,
     others: &[u32],
 ) -> Result<(), Refusal> {
-    book.tell(lines, charges, day, hour, 1, others)?;
-    book.allot(lines, charges, day, hour)
+    book.tell(lines, charges, at, 1, others)?;
+    book.allot(lines, charges, at)
 }
 
 // Allots every hour of a month of 31 days.
@@ -51,7 +51,7 @@ fn allot_all(
 ) -> Result<(), Refusal> {
     for day in 1..32 {
         for hour in 1..25 {
-            allot(book, lines, charges, day, hour, others)?;
+            allot(book, lines, charges, MonthHour { day, hour }, others)?;
         }
     }
     Ok(())
@@ -96,7 +96,7 @@ fn write_in_correction(
     charges: &mut [BuyerLine],
     buffer: &mut [u8],
 ) -> Result<usize, Refusal> {
-    let slip = book.reopen(lines, charges, 1, 2)?;
+    let slip = book.reopen(lines, charges, MonthHour { day: 1, hour: 2 })?;
     let answer = write_sheet(book, lines, charges, buffer);
     match book.finish(lines, charges, slip) {
         Ok(()) => answer,
@@ -107,7 +107,7 @@ fn write_in_correction(
 #[test]
 fn only_allotted_hours_are_summed(rt: HostRuntime) -> Result<(), Fail> {
     let mut lines = [None; 696];
-    let mut charges = [charge(0, 0); 1_392];
+    let mut charges = [BuyerLine::default(); 1_392];
     let mut book = Book::new();
     let opening = Opening {
         number: 10,
@@ -122,9 +122,14 @@ fn only_allotted_hours_are_summed(rt: HostRuntime) -> Result<(), Fail> {
         }],
     };
     book.open(opening, &mut lines, &mut charges)?;
-    allot(&mut book, &lines, &mut charges, 1, 1, &[0])?;
-    allot(&mut book, &lines, &mut charges, 1, 2, &[0])?;
-    allot(&mut book, &lines, &mut charges, 29, 24, &[0])?;
+    let allotted = [
+        MonthHour { day: 1, hour: 1 },
+        MonthHour { day: 1, hour: 2 },
+        MonthHour { day: 29, hour: 24 },
+    ];
+    for at in allotted {
+        allot(&mut book, &lines, &mut charges, at, &[0])?;
+    }
     fill(&mut lines, &mut charges);
     let text =
         b"book=10\nmonth=2\nallotted=2\ncorrecting=1\nresource=0\naggregator=5\npaid=0\nfined=9\npayer=0\ncharged=-1\nrefunded=10\npayer=1\ncharged=101\nrefunded=-100\n";
@@ -144,7 +149,7 @@ fn only_allotted_hours_are_summed(rt: HostRuntime) -> Result<(), Fail> {
 #[test]
 fn the_largest_month_does_not_wrap(rt: HostRuntime) -> Result<(), Fail> {
     let mut lines = [None; 11_904];
-    let mut charges = [charge(0, 0); 5_952];
+    let mut charges = [BuyerLine::default(); 5_952];
     let mut book = Book::new();
     let opening = Opening {
         number: 4_294_967_295,

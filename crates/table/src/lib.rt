@@ -7,13 +7,13 @@ pub mod table;
 #[cfg(test)]
 mod tests {
     use crate::lines::BuyerLine;
-    use crate::table::{Sums, Table, line_at, row_sums};
+    use crate::table::{Rows, Sums, Table};
     use settlement::terms::Line;
 
     fn buyer(charge: i32) -> BuyerLine {
         BuyerLine {
-            charge: charge as i64,
-            refund: -(charge as i64),
+            charge: i64::from(charge),
+            refund: -i64::from(charge),
         }
     }
 
@@ -72,7 +72,11 @@ mod tests {
         };
         let settled = [Some(worst), None, Some(worst)];
         assert_eq!(rt;
-            row_sums(&settled, 3, 0),
+            Rows {
+                lines: &settled,
+                width: 3,
+            }
+            .sums(0),
             Sums {
                 due: -8589934592,
                 back: 8589934590,
@@ -83,14 +87,22 @@ mod tests {
             refund: -9223372036854775807,
         }; 4];
         assert_eq!(rt;
-            row_sums(&most, 3, 1),
+            Rows {
+                lines: &most,
+                width: 3,
+            }
+            .sums(1),
             Sums {
                 due: 9223372036854775807,
                 back: -9223372036854775807,
             }
         );
         assert_eq!(rt;
-            line_at(&most, 4294967295, 4294967295, 4294967295),
+            Rows {
+                lines: &most,
+                width: 4294967295,
+            }
+            .line(4294967295, 4294967295),
             buyer(0)
         );
     }

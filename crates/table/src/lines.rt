@@ -1,5 +1,5 @@
 // The two sorts of lines.
-ghost use Rattle.std.specs.Prelude.{◌≡◌, ℕ, ◌^◌, ◌≤◌, ℤ, unsigned_abs};
+ghost use Rattle.std.specs.Prelude.{◌≡◌, ℕ, ◌^◌, ◌≤◌, ℤ, ◌+ℤ◌, unsigned_abs};
 ghost use Rattle.table.specs.Lines.{no_line, no_charge, paid_of, fined_of};
 
 use settlement::terms::Line;
@@ -8,7 +8,7 @@ use settlement::terms::Line;
 pub type ResourceLine = Option<Line>;
 
 // What stands at the place of a buyer in an hour, in won.
-#[derive(Clone, Copy, PartialEq, Eq, Debug)]
+#[derive(Clone, Copy, PartialEq, Eq, Debug, Default)]
 pub struct BuyerLine {
     pub charge: i64,
     pub refund: i64,
@@ -26,6 +26,7 @@ pub trait Amounts: Copy {
     ghost most: { ℕ };
 
     // The line of an empty place.
+    // Stays: (d) with `Default` each sort would owe a law that its default is the empty line.
     fn empty() -> Self
         ensures value { result ≡ empty };
 
@@ -38,6 +39,14 @@ pub trait Amounts: Copy {
     fn back(&self) -> i64
         ensures value { result ≡ back self.now }
         ensures bounded { unsigned_abs result ≤ most };
+}
+
+// The plan pay and the order pay of a line.
+fn pay(line: Line) -> i64
+    ensures value { result ≡ line.plan_pay +ℤ line.order_pay }
+    ensures bounded { unsigned_abs result ≤ 2 ^ 32 }
+{
+    i64::from(line.plan_pay) + i64::from(line.order_pay)
 }
 
 // A resource is due its plan pay and order pay, and its fine goes back.
@@ -55,17 +64,11 @@ impl Amounts for ResourceLine {
     }
 
     fn due(&self) -> i64 {
-        match *self {
-            None => 0,
-            Some(line) => line.plan_pay as i64 + line.order_pay as i64,
-        }
+        self.map_or(0, pay)
     }
 
     fn back(&self) -> i64 {
-        match *self {
-            None => 0,
-            Some(line) => line.fined as i64,
-        }
+        self.map_or(0, |line| i64::from(line.fined))
     }
 }
 
@@ -80,10 +83,7 @@ impl Amounts for BuyerLine {
     ghost most = { 2 ^ 63 };
 
     fn empty() -> BuyerLine {
-        BuyerLine {
-            charge: 0,
-            refund: 0,
-        }
+        BuyerLine::default()
     }
 
     fn due(&self) -> i64 {

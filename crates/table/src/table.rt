@@ -4,9 +4,10 @@ ghost use Rattle.won.specs.Sums.{total_to};
 ghost use Rattle.table.specs.Tables.{filled};
 
 use crate::lines::Amounts;
+use std::ops::Add;
 
 // What the lines of a row come to, in won.
-#[derive(Clone, Copy, PartialEq, Eq, Debug)]
+#[derive(Clone, Copy, PartialEq, Eq, Debug, Default)]
 pub struct Sums {
     pub due: i128,
     pub back: i128,
@@ -23,13 +24,11 @@ fn place_of(width: u32, hour: u32, column: u32) -> usize
 fn line_of<L: Amounts>(lines: &[L], place: usize) -> L
     ensures value { result ≡ slice_index_or lines.now place L.Amounts.empty }
 {
-    if place < lines.len() {
-        return lines[place];
-    }
-    L::empty()
+    lines.get(place).copied().unwrap_or(L::empty())
 }
 
 // Writes the line at a place of the list.
+// Stays: (c) after `get_mut` a proof knows the length of the list and no line of it.
 fn write<L: Amounts>(lines: &mut [L], place: usize, line: L)
     ensures value { lines.new ≡ slice_set lines.old place line }
 {
@@ -38,48 +37,83 @@ fn write<L: Amounts>(lines: &mut [L], place: usize, line: L)
     }
 }
 
-// Writes a row's lines from a place on, and empty lines past the row's end, `count` lines in all.
-fn fill<L: Amounts>(lines: &mut [L], from: usize, count: usize, row: &[L])
-    requires room { from + count < 2 ^ 64 }
+// Writes the first `count` lines of a row from a place on.
+fn copy<L: Amounts>(lines: &mut [L], from: usize, count: usize, row: &[L])
+    requires { count ≤ length row.now }
     ensures value { lines.new ≡ filled lines.old from count (λ k. slice_index_or row.now k L.Amounts.empty) }
 {
-    for k in 0..count.min(lines.len()) {
-        write(lines, from + k, line_of(row, k));
+    let from = from.min(lines.len());
+    let count = count.min(lines.len() - from);
+    lines[from..from + count].copy_from_slice(&row[..count]);
+}
+
+// Empties `count` places of the list from a place on.
+fn clear<L: Amounts>(lines: &mut [L], from: usize, count: usize)
+    ensures value { lines.new ≡ filled lines.old from count (λ _. L.Amounts.empty) }
+{
+    let from = from.min(lines.len());
+    let count = count.min(lines.len() - from);
+    lines[from..from + count].fill_with(|| L::empty());
+}
+
+impl Sums {
+    // What one line comes to.
+    pub fn of<L: Amounts>(line: L) -> Sums
+        ensures due { result.due ≡ L.Amounts.due line }
+        ensures back { result.back ≡ L.Amounts.back line }
+        ensures bounded { (unsigned_abs result.due ≤ L.Amounts.most) × (unsigned_abs result.back ≤ L.Amounts.most) }
+        ensures narrow { (unsigned_abs result.due ≤ 2 ^ 63) × (unsigned_abs result.back ≤ 2 ^ 63) }
+    {
+        Sums {
+            due: i128::from(line.due()),
+            back: i128::from(line.back()),
+        }
     }
 }
 
-// The line at a column of an hour's row.
-pub fn line_at<L: Amounts>(lines: &[L], width: u32, hour: u32, column: u32) -> L
-    ensures value { result ≡ slice_index_or lines.now (hour * width + column) L.Amounts.empty }
-{
-    line_of(lines, place_of(width, hour, column))
-}
+// Sums are added where what they come to is below 2 ^ 127.
+impl Add for Sums {
+    type Output = Sums;
 
-// The sums with one line more.
-fn with_line<L: Amounts>(sums: Sums, line: L) -> Sums
-    requires small { (unsigned_abs sums.due ≤ 2 ^ 126) × (unsigned_abs sums.back ≤ 2 ^ 126) }
-    ensures due { result.due ≡ sums.due +ℤ L.Amounts.due line }
-    ensures back { result.back ≡ sums.back +ℤ L.Amounts.back line }
-    ensures bounded { (unsigned_abs (L.Amounts.due line) ≤ L.Amounts.most) × (unsigned_abs (L.Amounts.back line) ≤ L.Amounts.most) }
-    ensures narrow { (unsigned_abs (L.Amounts.due line) ≤ 2 ^ 63) × (unsigned_abs (L.Amounts.back line) ≤ 2 ^ 63) }
-{
-    Sums {
-        due: sums.due + line.due() as i128,
-        back: sums.back + line.back() as i128,
+    ghost can_add = { λ a b. (unsigned_abs (a.due +ℤ b.due) < 2 ^ 127) × (unsigned_abs (a.back +ℤ b.back) < 2 ^ 127) };
+
+    ghost add_gives = { λ a b r. (r.due ≡ a.due +ℤ b.due) × (r.back ≡ a.back +ℤ b.back) };
+
+    fn add(self, other: Sums) -> Sums {
+        Sums {
+            due: self.due + other.due,
+            back: self.back + other.back,
+        }
     }
 }
 
-// What an hour's row comes to.
-pub fn row_sums<L: Amounts>(lines: &[L], width: u32, hour: u32) -> Sums
-    ensures due { result.due ≡ total_to width (λ k. L.Amounts.due (slice_index_or lines.now (hour * width + k) L.Amounts.empty)) }
-    ensures back { result.back ≡ total_to width (λ k. L.Amounts.back (slice_index_or lines.now (hour * width + k) L.Amounts.empty)) }
-    ensures bounded { (unsigned_abs result.due ≤ width * L.Amounts.most) × (unsigned_abs result.back ≤ width * L.Amounts.most) }
-{
-    let mut sums = Sums { due: 0, back: 0 };
-    for column in 0..width {
-        sums = with_line(sums, line_at(lines, width, hour, column));
+// A list of lines as it is read, with a row of `width` places for each hour.
+#[derive(Clone, Copy)]
+pub struct Rows<'a, L> {
+    pub lines: &'a [L],
+    pub width: u32,
+}
+
+impl<'a, L: Amounts> Rows<'a, L> {
+    // The line at a column of an hour's row.
+    pub fn line(&self, hour: u32, column: u32) -> L
+        ensures value { result ≡ slice_index_or self.now.lines.now (hour * self.now.width + column) L.Amounts.empty }
+    {
+        line_of(self.lines, place_of(self.width, hour, column))
     }
-    sums
+
+    // What an hour's row comes to.
+    pub fn sums(&self, hour: u32) -> Sums
+        ensures due { result.due ≡ total_to self.now.width (λ k. L.Amounts.due (slice_index_or self.now.lines.now (hour * self.now.width + k) L.Amounts.empty)) }
+        ensures back { result.back ≡ total_to self.now.width (λ k. L.Amounts.back (slice_index_or self.now.lines.now (hour * self.now.width + k) L.Amounts.empty)) }
+        ensures bounded { (unsigned_abs result.due ≤ self.now.width * L.Amounts.most) × (unsigned_abs result.back ≤ self.now.width * L.Amounts.most) }
+    {
+        let mut sums = Sums::default();
+        for column in 0..self.width {
+            sums = sums + Sums::of(self.line(hour, column));
+        }
+        sums
+    }
 }
 
 // A lent list of lines, with a row of `width` places for each hour.
@@ -102,7 +136,11 @@ impl<'a, L: Amounts> Table<'a, L> {
     pub fn line(&self, hour: u32, column: u32) -> L
         ensures value { result ≡ slice_index_or self.now.lines.now (hour * self.now.width + column) L.Amounts.empty }
     {
-        line_at(self.lines, self.width, hour, column)
+        let rows = Rows {
+            lines: self.lines,
+            width: self.width,
+        };
+        rows.line(hour, column)
     }
 
     // What an hour's row comes to.
@@ -111,7 +149,11 @@ impl<'a, L: Amounts> Table<'a, L> {
         ensures back { result.back ≡ total_to self.now.width (λ k. L.Amounts.back (slice_index_or self.now.lines.now (hour * self.now.width + k) L.Amounts.empty)) }
         ensures bounded { (unsigned_abs result.due ≤ self.now.width * L.Amounts.most) × (unsigned_abs result.back ≤ self.now.width * L.Amounts.most) }
     {
-        row_sums(self.lines, self.width, hour)
+        let rows = Rows {
+            lines: self.lines,
+            width: self.width,
+        };
+        rows.sums(hour)
     }
 
     // Writes the line at a column of an hour's row.
@@ -132,7 +174,7 @@ impl<'a, L: Amounts> Table<'a, L> {
     {
         let from = place_of(self.width, hour, 0);
         let count = row.len().min(self.width as usize);
-        fill(self.lines, from, count, row);
+        copy(self.lines, from, count, row);
     }
 
     // Empties an hour's row.
@@ -143,7 +185,7 @@ impl<'a, L: Amounts> Table<'a, L> {
     {
         let from = place_of(self.width, hour, 0);
         let count = self.width as usize;
-        fill(self.lines, from, count, &[]);
+        clear(self.lines, from, count);
     }
 
     // Empties the rows of the first `hours` hours.
@@ -153,6 +195,6 @@ impl<'a, L: Amounts> Table<'a, L> {
         ensures wide { self.new.width ≡ self.old.width }
     {
         let count = place_of(self.width, hours, 0);
-        fill(self.lines, 0, count, &[]);
+        clear(self.lines, 0, count);
     }
 }

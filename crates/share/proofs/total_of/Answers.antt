@@ -1,14 +1,10 @@
-use Rattle.std.proofs.Common.{sum, ap, ◌∙◌, arith}
-use Rattle.std.proofs.lemmas.List.{take_all}
-use Rattle.share.proofs.Weights.{weight_more}
+use Rattle.std.proofs.Common.{◌≡◌, ◌-◌, ◌^◌, sum, arith, rules}
+use Rattle.std.proofs.lemmas.List.{get_or_default}
+use Rattle.std.proofs.lemmas.List.Sums.{sum_by-le}
 use Rattle.share.proofs.total_of.Goals as goal
 
-pub loop-weight-preserved : goal.loop-weight-preserved
-loop-weight-preserved c =
-    let m = weight_more c.args.weights.now c.loop-weight.weight-index in
-    (omega arith, omega arith)
-
-pub returns : goal.returns
-returns c =
-    let e = ap sum (take_all c.loop-weight.weight-index c.args.weights.now c.loop-weight-test.false) in
-    record { value = c.loop-weight.invariant.0 ∙ e; bounded = omega arith }
+pub returns-clause-bounded : goal.returns-clause-bounded
+returns-clause-bounded c =
+    let value : c.sum.result ≡ sum c.args.weights.now = search rules in
+    let within = sum_by-le (λ x. x) (2 ^ 32 - 1) c.args.weights.now (λ k d l. let f = c.type_inv.weights k in let e = get_or_default c.args.weights.now k 0 d l in omega arith) in
+    omega arith

@@ -1,12 +1,9 @@
-use Rattle.std.proofs.Common.{arith, length-drop, rules}
-use Rattle.sheet.proofs.Tapes.{put_tape}
+use Rattle.std.proofs.Common.{◌+◌, ◌<◌, length, arith, length-drop}
+use Rattle.std.proofs.lemmas.List.{drop-drop, drop-set-lt, take_more_set}
 use Rattle.sheet.proofs.page.PageSink.put.Goals as goal
 
-pub bounds-self-self : goal.bounds-self-self
-bounds-self-self c = omega (arith, simp length-drop at c.requires)
-
-pub overflow_add-self : goal.overflow_add-self
-overflow_add-self c = let h = simp length-drop at c.requires in search rules
-
 pub returns : goal.returns
-returns c = record { value = put_tape c.args.self.now.buffer.now c.args.self.now.next _ _ (omega (arith, simp length-drop at c.requires)) }
+returns c =
+    let page = c.args.self.now in
+    let room : page.next < length page.buffer.now = omega (arith, simp length-drop at c.requires) in
+    record { value = rw (take_more_set page.buffer.now page.next c.args.byte room, drop-set-lt (page.next + 1) page.buffer.now page.next c.args.byte (omega arith), drop-drop 1 page.next page.buffer.now) }
