@@ -60,19 +60,11 @@ fn standard(customers: u32, slot: Slot, terms: Terms) -> ResourceHour {
     }
 }
 
-// The number of a refusal, 0 for none.
-fn number_of(answer: Result<Line, Refusal>) -> u32 {
-    match answer {
-        Ok(_) => 0,
-        Err(refusal) => refusal.number(),
-    }
-}
-
-// The number of the refusal of some terms, for one customer who takes part and whose load is the baseline.
-fn refused(hour: u32, terms: Terms) -> u32 {
+// What some terms are refused for, for one customer who takes part and whose load is the baseline.
+fn refused(hour: u32, terms: Terms) -> Option<Refusal> {
     let level = source(700, 700);
     let slot = Slot { hour, ..SLOT };
-    number_of(standard(1, slot, terms).settle(&level, &level, &[1]))
+    standard(1, slot, terms).settle(&level, &level, &[1]).err()
 }
 
 #[test]
@@ -161,18 +153,19 @@ fn orders_are_taken_in_their_hours(rt: HostRuntime) {
         order: 1,
         ..NOTHING
     };
-    for (hour, number) in [
-        (9, 24),
-        (10, 0),
-        (12, 0),
-        (13, 24),
-        (14, 0),
-        (20, 0),
-        (21, 24),
+    let outside = Some(Refusal::OutsideOrderHours);
+    for (hour, refusal) in [
+        (9, outside),
+        (10, None),
+        (12, None),
+        (13, outside),
+        (14, None),
+        (20, None),
+        (21, outside),
     ] {
-        assert_eq!(rt; refused(hour, order), number);
+        assert_eq!(rt; refused(hour, order), refusal);
     }
-    assert_eq!(rt; refused(13, Terms { plan: 1, ..NOTHING }), 0);
+    assert_eq!(rt; refused(13, Terms { plan: 1, ..NOTHING }), None);
     for (month, hour, takes) in [
         (2, 11, false),
         (3, 10, false),
@@ -218,17 +211,18 @@ fn limits_hold_at_and_one_past(rt: HostRuntime) {
     let order = |order| Terms { order, ..one };
     let smp = |smp| Terms { smp, ..one };
     let mgp = |mgp| Terms { mgp, ..one };
-    for (terms, number) in [
-        (plan(640_000_000), 0),
-        (plan(640_000_001), 22),
-        (order(500_000_000), 0),
-        (order(500_000_001), 22),
-        (smp(200_000), 0),
-        (smp(200_001), 22),
-        (mgp(200_000), 0),
-        (mgp(200_001), 22),
+    let above = Some(Refusal::AboveLimit);
+    for (terms, refusal) in [
+        (plan(640_000_000), None),
+        (plan(640_000_001), above),
+        (order(500_000_000), None),
+        (order(500_000_001), above),
+        (smp(200_000), None),
+        (smp(200_001), above),
+        (mgp(200_000), None),
+        (mgp(200_001), above),
     ] {
-        assert_eq!(rt; refused(11, terms), number);
+        assert_eq!(rt; refused(11, terms), refusal);
     }
 }
 
@@ -247,16 +241,26 @@ fn refusals_come_in_order(rt: HostRuntime) {
     let dear = Terms { plan: 1, ..worst };
     let marked = Terms { mgp: 0, ..dear };
     let ordered = Terms { order: 1, ..marked };
-    for (slot, terms, number) in [
-        (midday, worst, 21),
-        (midday, dear, 22),
-        (midday, marked, 23),
-        (midday, ordered, 24),
-        (SLOT, ordered, 25),
-        (SLOT, Terms { plan: 0, ..ordered }, 26),
+    let no_load = NoFigure {
+        customer: 0,
+        cause: Cause::MissingLoad,
+    };
+    for (slot, terms, number, refusal) in [
+        (midday, worst, 21, Refusal::NeitherPlanNorOrder),
+        (midday, dear, 22, Refusal::AboveLimit),
+        (midday, marked, 23, Refusal::MarkWithoutOrder),
+        (midday, ordered, 24, Refusal::OutsideOrderHours),
+        (SLOT, ordered, 25, Refusal::Scheduled(no_load)),
+        (
+            SLOT,
+            Terms { plan: 0, ..ordered },
+            26,
+            Refusal::Mandatory(no_load),
+        ),
     ] {
         let answer = standard(1, slot, terms).settle(&lacking, &lacking, &[1]);
-        assert_eq!(rt; number_of(answer), number);
+        assert_eq!(rt; answer, Err(refusal));
+        assert_eq!(rt; refusal.number(), number);
     }
 }
 

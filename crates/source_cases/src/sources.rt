@@ -24,9 +24,9 @@ fn at(customer: u32, day: u32, hour: u32) -> CustomerHour {
 
 // Loads of customer 0 in one hour, day by day from day 0 on; every other hour is missing.
 fn put_hour(loads: &mut [u32; 600], hour: usize, days: &[u32]) {
-    for (day, load) in days.iter().enumerate() {
-        if hour >= 1 && hour <= 24 && day < 24 {
-            loads[day * 24 + hour - 1] = *load;
+    for (day, load) in loads.chunks_exact_mut(24).zip(days) {
+        if (1..=24).contains(&hour) {
+            day[hour - 1] = *load;
         }
     }
 }
@@ -130,12 +130,8 @@ fn a_profile_keeps_the_days_of_its_first_hour(rt: HostRuntime) -> Result<(), Fai
 // The adjusted baseline of 200 in hour 6 of day 5, where hours 1 to 3 are usually 100 each.
 fn adjusted_at(start: u8, metered: [u32; 3]) -> Result<Result<i32, Cause>, Refusal> {
     let mut loads = [MISSING; 600];
-    for hour in 1..4 {
-        put_hour(
-            &mut loads,
-            hour,
-            &[100, 100, 100, 100, 100, metered[hour - 1]],
-        );
+    for (hour, load) in (1..4).zip(metered) {
+        put_hour(&mut loads, hour, &[100, 100, 100, 100, 100, load]);
     }
     for hour in 4..7 {
         put_hour(&mut loads, hour, &[200; 5]);
