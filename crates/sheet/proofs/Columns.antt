@@ -1,5 +1,5 @@
 -- The columns of a sheet balance.
-use Rattle.std.proofs.Common.{◌≡◌, ℕ, zero, suc, Bool, true, false, cond, eqb, List, [], ◌∷◌, ◌++◌, ℤ, pos, ◌+ℤ◌, ◌-ℤ◌, Ok, Err, sym, refl, ap, ◌∙◌, ap₂, arith}
+use Rattle.std.proofs.Common.{◌≡◌, ℕ, zero, suc, Bool, true, false, cond, List, [], ◌∷◌, ◌++◌, ℤ, pos, ◌+ℤ◌, ◌-ℤ◌, Ok, Err, sym, refl, ap, ◌∙◌, ap₂, arith}
 use Rattle.std.proofs.lemmas.Int.{ints}
 use Rattle.refusal.specs.declared.Refusal.TheVariants.{ShortLists}
 use Rattle.won.specs.Sums.{total_to}
@@ -17,7 +17,7 @@ use Rattle.sheet.specs.declared.entry.Key.{Key}
 use Rattle.sheet.specs.declared.entry.Key.TheVariants.{Paid, Fined, Charged, Refunded}
 use Rattle.sheet.specs.declared.entry.Entry.{Entry}
 use Rattle.sheet.specs.Evening.{over_allotted, paid_over, fined_over, charged_over, refunded_over, head_entries, resource_entries, buyer_entries, joined_to, sheet_entries}
-use Rattle.sheet.specs.Columns.{order_of, column, BalancedSheet}
+use Rattle.sheet.specs.Columns.{column, BalancedSheet}
 
 -- sums of rows are sums of columns
 
@@ -57,15 +57,9 @@ module _ (b : State) where
 
 -- columns of entries one after another
 
-add_three : (x y z t : ℤ) → t ≡ y +ℤ z → x +ℤ t ≡ (x +ℤ y) +ℤ z
-add_three x y z t e = omega (arith, ints)
-
 column_append : (key : Key) (xs ys : List Entry) → column key (xs ++ ys) ≡ column key xs +ℤ column key ys
-column_append key [] ys = nought (column key ys)
-  where
-    nought : (x : ℤ) → x ≡ pos 0 +ℤ x
-    nought x = omega (arith, ints)
-column_append key (x ∷ xs) ys = add_three (cond (eqb (order_of key) (order_of x.key)) x.number (pos 0)) (column key xs) (column key ys) _ (column_append key xs ys)
+column_append key [] ys = omega (arith, ints)
+column_append key (x ∷ xs) ys = omega (arith, ints, column_append key xs ys)
 
 column_joined : (key : Key) (n : ℕ) (f : ℕ → List Entry) (g : ℕ → ℤ) → ((k : ℕ) → column key (f k) ≡ g k) → column key (joined_to n f) ≡ total_to n g
 column_joined key zero f g e = refl
@@ -73,49 +67,45 @@ column_joined key (suc n) f g e = column_append key (joined_to n f) (f n) ∙ ap
 
 column_sheet : (key : Key) (b : State) (f g : ℕ → ℤ) → column key (head_entries b.register b.hours) ≡ pos 0
     → ((r : ℕ) → column key (resource_entries b r) ≡ f r) → ((k : ℕ) → column key (buyer_entries b k) ≡ g k)
-    → column key (sheet_entries b) ≡ (pos 0 +ℤ total_to b.register.enrolled f) +ℤ total_to b.register.buyers g
+    → column key (sheet_entries b) ≡ total_to b.register.enrolled f +ℤ total_to b.register.buyers g
 unfolding sheet_entries
 column_sheet key b f g z p q =
-    column_append key (head_entries b.register b.hours ++ joined_to b.register.enrolled (resource_entries b)) (joined_to b.register.buyers (buyer_entries b))
-    ∙ ap₂ ◌+ℤ◌
-    (column_append key (head_entries b.register b.hours) (joined_to b.register.enrolled (resource_entries b)) ∙ ap₂ ◌+ℤ◌ z (column_joined key b.register.enrolled (resource_entries b) f p))
-    (column_joined key b.register.buyers (buyer_entries b) g q)
-
-first_of_two : (x y : ℤ) → y ≡ pos 0 → (pos 0 +ℤ x) +ℤ y ≡ x
-first_of_two x y e = omega (arith, ints)
-
-second_of_two : (x y : ℤ) → x ≡ pos 0 → (pos 0 +ℤ x) +ℤ y ≡ y
-second_of_two x y e = omega (arith, ints)
-
-alone : (x : ℤ) → pos 0 +ℤ (x +ℤ pos 0) ≡ x
-alone x = omega (arith, ints)
-
-alone_next : (x : ℤ) → pos 0 +ℤ (pos 0 +ℤ (x +ℤ pos 0)) ≡ x
-alone_next x = omega (arith, ints)
-
-alone_last : (x : ℤ) → pos 0 +ℤ (pos 0 +ℤ (pos 0 +ℤ (x +ℤ pos 0))) ≡ x
-alone_last x = omega (arith, ints)
+    let head = head_entries b.register b.hours in
+    let resources = joined_to b.register.enrolled (resource_entries b) in
+    let buyers = joined_to b.register.buyers (buyer_entries b) in
+    omega (
+      arith,
+      ints,
+      z,
+      column_append key (head ++ resources) buyers,
+      column_append key head resources,
+      column_joined key b.register.enrolled (resource_entries b) f p,
+      column_joined key b.register.buyers (buyer_entries b) g q,
+    )
 
 module _ (b : State) where
+  no_resources : total_to b.register.enrolled (λ r. pos 0) ≡ pos 0
+  no_resources = total_nought b.register.enrolled (λ r. pos 0) (λ k l. refl)
+
+  no_buyers : total_to b.register.buyers (λ k. pos 0) ≡ pos 0
+  no_buyers = total_nought b.register.buyers (λ k. pos 0) (λ k l. refl)
+
   paid_column : column Paid (sheet_entries b) ≡ total_to b.register.enrolled (paid_over b)
-  paid_column = column_sheet Paid b (paid_over b) (λ k. pos 0) refl (λ r. alone_next (paid_over b r)) (λ k. refl) ∙ first_of_two _ _ (total_nought b.register.buyers (λ k. pos 0) (λ k l. refl))
+  paid_column = omega (arith, ints, no_buyers, column_sheet Paid b (paid_over b) (λ k. pos 0) refl (λ r. omega (arith, ints)) (λ k. refl))
 
   fined_column : column Fined (sheet_entries b) ≡ total_to b.register.enrolled (fined_over b)
-  fined_column = column_sheet Fined b (fined_over b) (λ k. pos 0) refl (λ r. alone_last (fined_over b r)) (λ k. refl) ∙ first_of_two _ _ (total_nought b.register.buyers (λ k. pos 0) (λ k l. refl))
+  fined_column = omega (arith, ints, no_buyers, column_sheet Fined b (fined_over b) (λ k. pos 0) refl (λ r. omega (arith, ints)) (λ k. refl))
 
   charged_column : column Charged (sheet_entries b) ≡ total_to b.register.buyers (charged_over b)
-  charged_column = column_sheet Charged b (λ r. pos 0) (charged_over b) refl (λ r. refl) (λ k. alone (charged_over b k)) ∙ second_of_two _ _ (total_nought b.register.enrolled (λ r. pos 0) (λ k l. refl))
+  charged_column = omega (arith, ints, no_resources, column_sheet Charged b (λ r. pos 0) (charged_over b) refl (λ r. refl) (λ k. omega (arith, ints)))
 
   refunded_column : column Refunded (sheet_entries b) ≡ total_to b.register.buyers (refunded_over b)
-  refunded_column = column_sheet Refunded b (λ r. pos 0) (refunded_over b) refl (λ r. refl) (λ k. alone_next (refunded_over b k)) ∙ second_of_two _ _ (total_nought b.register.enrolled (λ r. pos 0) (λ k l. refl))
+  refunded_column = omega (arith, ints, no_resources, column_sheet Refunded b (λ r. pos 0) (refunded_over b) refl (λ r. refl) (λ k. omega (arith, ints)))
 
 -- what the calls say is charged is what is paid, and what is refunded is what is fined
 figures_agree : (t : Bool) (x y : Reconciliation) → cond t (Err ShortLists) (Ok x) ≡ Ok y → y.charges ≡ y.payments → y.refunds ≡ y.fines → (x.charges ≡ x.payments) × (x.refunds ≡ x.fines)
 figures_agree true x y e p q = absurd (let z : ◌≡◌ {A = ℕ} 0 1 = cc in omega arith)
 figures_agree false x y e p q = let s : x ≡ y = cc in (ap (λ z. z.charges) s ∙ p ∙ sym (ap (λ z. z.payments) s), ap (λ z. z.refunds) s ∙ q ∙ sym (ap (λ z. z.fines) s))
-
-net_from : (a b c d : ℤ) → a ≡ c → b ≡ d → a -ℤ b ≡ c -ℤ d
-net_from a b c d p q = ap₂ ◌-ℤ◌ p q
 
 pub balanced_sheet : (b : State) → BalancedSheet b
 balanced_sheet b o unopened calls run =
@@ -124,4 +114,4 @@ balanced_sheet b o unopened calls run =
     let agree = figures_agree (short_for b.register b.lines b.charges) (sums_to b (hours_of b.register)) (by_calls s (accepted (opened o unopened) calls)) u.figures refl refl in
     let gross = charged_column b ∙ sym (charges_are b) ∙ agree.0 ∙ payments_are b ∙ sym (paid_column b) in
     let back = refunded_column b ∙ sym (refunds_are b) ∙ agree.1 ∙ fines_are b ∙ sym (fined_column b) in
-    record { net = net_from _ _ _ _ gross back; gross = gross }
+    record { net = ap₂ ◌-ℤ◌ gross back; gross = gross }
