@@ -41,7 +41,11 @@ fn loads(rt: HostRuntime) -> Result<(), Fail> {
     assert_eq!(rt; record.load(hour(0, 0, 2)), Some(11));
     assert_eq!(rt; record.load(hour(0, 0, 3)), None);
     assert_eq!(rt; record.load(hour(15, 95, 24)), Some(20_000_000));
-    assert_eq!(rt; record.load(hour(2, 1, 9)), Some(6), "a later line replaces");
+    assert_eq!(rt;
+        record.load(hour(2, 1, 9)),
+        Some(6),
+        "a later line replaces"
+    );
     Ok(())
 }
 
@@ -96,6 +100,6 @@ fn an_hour(rt: HostRuntime) -> Result<(), Fail> {
     );
     let purchases = request.purchases().ok_or("no purchases")?;
     assert_eq!(rt; purchases.bought.len(), 3);
-    assert_eq!(rt; purchases.bought.as_slice(), [35, 40, 25]);
+    assert_eq!(rt; purchases.bought.as_slice(), [35, 40, 25].as_slice());
     Ok(())
 }
