@@ -1,14 +1,9 @@
--- Lists that are entered from the first place on, by a loop or by a call at each place.
-use Rattle.std.proofs.Common.{◌≡◌, ℕ, zero, suc, ◌+◌, ◌<◌, ◌≤◌, List, get_or, set, sym, ap, ◌∙◌, subst, ⊎_elim, zero-add, arith}
+-- Lists that are made by a call at each place.
+use Rattle.std.proofs.Common.{◌≡◌, ℕ, zero, suc, ◌+◌, ◌<◌, ◌≤◌, List, get_or, sym, ap, ◌∙◌, subst, ⊎_elim, arith}
 use Rattle.std.proofs.lemmas.Bool.{cases_eq}
 use Rattle.std.specs.Array.{IsFromFnResultFrom}
 use Rattle.std.specs.Fn.{Called}
 use denote.Param.Members.{Mut}
-use Rattle.table.specs.Tables.{filled}
-use Rattle.table.proofs.Filling.{filled_turn}
-
-pub entered_more : {X : Type 0} (xs ys : List X) (k : ℕ) (f : ℕ → X) (v : X) → ys ≡ filled xs 0 k f → v ≡ f k → set ys k v ≡ filled xs 0 (k + 1) f
-entered_more xs ys k f v p q = filled_turn xs ys (set ys k v) 0 k f v p q (ap (λ i. set ys i v) (sym (zero-add k)))
 
 -- what calls from i on gave, where a call leaves what it reads
 pub each_made : {F X : Type 0} (g : Mut F (ℕ × Unit {0}) X) (f : F) (ys : List X) (h : ℕ → X) (d : X) → ((i : ℕ) (y : X) (q : F) → Called g f (i, tt) y q → (q ≡ f) × (y ≡ h i)) → (n i : ℕ) → IsFromFnResultFrom g f ys i n → (k : ℕ) → i ≤ k → k < i + n → get_or ys k d ≡ h k

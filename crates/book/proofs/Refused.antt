@@ -16,6 +16,12 @@ passed [] e i = refl
 passed (o ∷ os) e zero = (none_head o os e).0
 passed (o ∷ os) e (suc i) = passed os (none_head o os e).1 i
 
+-- a refusal stands before further tests
+pub first_kept : (os rest : List (Option Refusal)) (q : Refusal) → first_of os ≡ Some q → first_of (os ++ rest) ≡ Some q
+first_kept [] rest q e = grind arith
+first_kept (None ∷ os) rest q e = first_kept os rest q e
+first_kept (Some r ∷ os) rest q e = e
+
 -- where none refuses, the further tests say
 pub first_after : (os rest : List (Option Refusal)) → first_of os ≡ None → first_of (os ++ rest) ≡ first_of rest
 first_after [] rest e = refl

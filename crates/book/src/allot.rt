@@ -1,18 +1,17 @@
 // Allotting an hour to its buyers, reopening it, and finishing its correction.
-ghost use Rattle.std.specs.Prelude.{◌≡◌, ◌+◌, ◌*◌, ◌^◌, ◌<◌, ◌≤◌, List, replicate, IfOk, None, slice_index_or, slice_set, unsigned_abs};
+ghost use Rattle.std.specs.Prelude.{◌≡◌, ◌+◌, ◌*◌, ◌^◌, ◌≤◌, replicate, IfOk, None, slice_index_or, unsigned_abs};
 ghost use Rattle.share.specs.Shares.{shares};
 ghost use Rattle.won.specs.Sums.{total_to};
-ghost use Rattle.table.specs.Lines.{ResourceLine, no_line, no_charge, paid_of, fined_of};
+ghost use Rattle.table.specs.Lines.{no_line, no_charge, paid_of, fined_of};
 ghost use Rattle.table.specs.Tables.{filled};
-ghost use Rattle.book.specs.Hours.{step_refusal, step_answer, hour_after};
 ghost use Rattle.book.specs.State.{paid_in, fined_in};
-ghost use Rattle.book.specs.Calls.{with_hour, charges_of, refusal, step};
+ghost use Rattle.book.specs.Calls.{charges_of, refusal, step};
 ghost use Rattle.book.specs.Calls.Call.{allot, reopen, finish};
 ghost use Rattle.book.specs.Seen.{seen, named_by, fresh, granted_or, back_or};
 
 use crate::book::Book;
 use crate::energies::Energies;
-use crate::hour::{Hour, Step};
+use crate::hour::Step;
 use crate::month_hour::{HourNumber, MonthHour};
 use crate::rows::{clear_row, put_row};
 use crate::slip::{RefusedSlip, Slip};
@@ -42,15 +41,6 @@ fn charge_row(paid: i64, fined: i64, purchases: [u32; 8]) -> [BuyerLine; 8]
 }
 
 impl Book {
-    // Steps an hour and answers its energies, or refuses and leaves it.
-    pub(crate) fn step(&mut self, h: HourNumber, call: Step) -> Result<Energies, Refusal>
-        ensures answer { result ≡ step_answer (step_refusal call (slice_index_or self.old.hours h.number Hour.Blank)) (slice_index_or self.old.hours h.number Hour.Blank) }
-        ensures register { self.new.register ≡ self.old.register }
-        ensures hours { self.new.hours ≡ slice_set self.old.hours h.number (hour_after call (slice_index_or self.old.hours h.number Hour.Blank)) }
-    {
-        self.hours[h.number as usize].step(call)
-    }
-
     // What an hour's lines are paid and fined together.
     fn amounts_in(&self, lines: &[ResourceLine], h: HourNumber) -> Sums
         ensures due { result.due ≡ total_to self.now.register.enrolled (λ k. paid_of (slice_index_or lines.now (h.number * self.now.register.enrolled + k) no_line)) }
@@ -90,7 +80,7 @@ impl Book {
         ensures book { seen self.new lines.now charges.new ≡ (step (allot at.day at.hour) (seen self.old lines.now charges.old)).1 }
     {
         let h = self.hour_place(lines, charges, at)?;
-        let energies = self.step(h, Step::Allot)?;
+        let energies = self.hours[h.number as usize].step(Step::Allot)?;
         self.charge_hour(lines, charges, h, energies);
         Ok(())
     }
@@ -107,7 +97,7 @@ impl Book {
         ensures finishes { IfOk result (λ slip. refusal (finish (named_by slip)) (seen self.new lines.now charges.new) ≡ None) }
     {
         let h = self.hour_place(lines, charges, at)?;
-        self.step(h, Step::Reopen)?;
+        self.hours[h.number as usize].step(Step::Reopen)?;
         clear_row(charges, self.register.buyers, h.number);
         Ok(Slip::new(self.register.number, at))
     }
@@ -123,7 +113,7 @@ impl Book {
         ensures book { seen self.new lines.now charges.new ≡ (step (finish (named_by slip.now)) (seen self.old lines.now charges.old)).1 }
     {
         let h = self.slip_place(lines, charges, slip)?;
-        let energies = self.step(h, Step::Finish)?;
+        let energies = self.hours[h.number as usize].step(Step::Finish)?;
         self.charge_hour(lines, charges, h, energies);
         Ok(())
     }

@@ -1,18 +1,15 @@
 // Telling an hour's energies.
-ghost use Rattle.std.specs.Prelude.{◌≡◌, ◌<◌, ◌≤◌, List, length, replicate, sum, slice_index, slice_index_or, slice_set};
+ghost use Rattle.std.specs.Prelude.{◌≡◌, ◌≤◌, length, replicate, sum, slice_index, slice_set};
 ghost use Rattle.refusal.specs.Tests.{first_of};
-ghost use Rattle.table.specs.Lines.{ResourceLine};
 ghost use Rattle.table.specs.Tables.{filled};
 ghost use Rattle.book.specs.Telling.{energies_tests, energies_of};
-ghost use Rattle.book.specs.Hours.{told_anew};
 ghost use Rattle.book.specs.Calls.{refusal, step};
 ghost use Rattle.book.specs.Calls.Call.{tell};
 ghost use Rattle.book.specs.Seen.{seen, granted_or};
 
 use crate::book::Book;
 use crate::energies::Energies;
-use crate::hour::Hour;
-use crate::month_hour::{HourNumber, MonthHour};
+use crate::month_hour::MonthHour;
 use refusal::Refusal;
 use table::lines::{BuyerLine, ResourceLine};
 
@@ -60,15 +57,6 @@ fn energies(buyers: u32, total: u32, others: &[u32]) -> Result<Energies, Refusal
 }
 
 impl Book {
-    // Notes an hour's energies.
-    fn tell_hour(&mut self, h: HourNumber, energies: Energies)
-        ensures register { self.new.register ≡ self.old.register }
-        ensures hours { self.new.hours ≡ slice_set self.old.hours h.number (told_anew (slice_index_or self.old.hours h.number Hour.Blank) energies) }
-    {
-        let hour = &mut self.hours[h.number as usize];
-        *hour = hour.told(energies);
-    }
-
     // Tells the energies of an hour that is not allotted; they replace those told before.
     pub fn tell(
         &mut self,
@@ -83,7 +71,8 @@ impl Book {
     {
         let h = self.telling_place(lines, charges, at)?;
         let told = energies(self.register.buyers, total, others)?;
-        self.tell_hour(h, told);
+        let hour = &mut self.hours[h.number as usize];
+        *hour = hour.told(told);
         Ok(())
     }
 }

@@ -13,10 +13,6 @@ pub length_filled : {X : Type 0} (xs : List X) (at n : ℕ) (f : ℕ → X) → 
 length_filled xs at zero f = refl
 length_filled xs at (suc n) f = simp length-set (length_filled xs at n f)
 
--- one place more, at the index as code has it
-pub filled_more : {X : Type 0} (xs : List X) (at n : ℕ) (f : ℕ → X) → filled xs at (n + 1) f ≡ set (filled xs at n f) (at + n) (f n)
-filled_more xs at n f = ap (λ m. filled xs at m f) (add-one n)
-
 -- equal lines written leave equal lists
 pub filled_same : {X : Type 0} (xs : List X) (at n : ℕ) (f g : ℕ → X) → ((k : ℕ) → k < n → f k ≡ g k) → filled xs at n f ≡ filled xs at n g
 filled_same xs at zero f g h = refl
@@ -51,10 +47,6 @@ filled_past xs at n (suc m) f h =
     let e : n + suc m ≡ suc (n + m) = omega arith in
     let long : length (filled xs at (n + m) f) ≤ at + (n + m) = omega (arith, length_filled xs at (n + m) f) in
     ap (λ k. filled xs at k f) e ∙ set_past (filled xs at (n + m) f) (at + (n + m)) (f (n + m)) long ∙ filled_past xs at n m f h
-
--- a loop's turn: ys was filled up to k, and zs is ys with the next line
-pub filled_turn : {X : Type 0} (xs ys zs : List X) (at k : ℕ) (f : ℕ → X) (v : X) → ys ≡ filled xs at k f → v ≡ f k → zs ≡ set ys (at + k) v → zs ≡ filled xs at (k + 1) f
-filled_turn xs ys zs at k f v p q r = let m = filled_more xs at k f in cc
 
 -- as many lines as the list has places behind the first, or as are asked for
 filled_rest : {X : Type 0} (xs : List X) (at n k : ℕ) (f : ℕ → X) → k ≤ n → min n (length xs - at) ≤ k → filled xs at k f ≡ filled xs at n f

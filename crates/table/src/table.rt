@@ -132,15 +132,22 @@ impl<'a, L: Amounts> Table<'a, L> {
         Table { lines, width }
     }
 
+    // The list as it is read.
+    fn rows(&self) -> Rows<'_, L>
+        ensures holds { result.lines.now ≡ self.now.lines.now }
+        ensures wide { result.width ≡ self.now.width }
+    {
+        Rows {
+            lines: self.lines,
+            width: self.width,
+        }
+    }
+
     // The line at a column of an hour's row.
     pub fn line(&self, hour: u32, column: u32) -> L
         ensures value { result ≡ slice_index_or self.now.lines.now (hour * self.now.width + column) L.Amounts.empty }
     {
-        let rows = Rows {
-            lines: self.lines,
-            width: self.width,
-        };
-        rows.line(hour, column)
+        self.rows().line(hour, column)
     }
 
     // What an hour's row comes to.
@@ -149,11 +156,7 @@ impl<'a, L: Amounts> Table<'a, L> {
         ensures back { result.back ≡ total_to self.now.width (λ k. L.Amounts.back (slice_index_or self.now.lines.now (hour * self.now.width + k) L.Amounts.empty)) }
         ensures bounded { (unsigned_abs result.due ≤ self.now.width * L.Amounts.most) × (unsigned_abs result.back ≤ self.now.width * L.Amounts.most) }
     {
-        let rows = Rows {
-            lines: self.lines,
-            width: self.width,
-        };
-        rows.sums(hour)
+        self.rows().sums(hour)
     }
 
     // Writes the line at a column of an hour's row.
