@@ -11,7 +11,7 @@ use refusal::Cause;
 const FIRST_ADJUSTED: u32 = 5;
 
 // A source below, and a byte for each day: the hour in which its first order starts, 0 for none.
-// Stays: (a) a table is handed in as bytes, and each byte has a meaning.
+// Stays: a table is handed in as bytes, and each byte has a meaning.
 #[derive(Drop)]
 pub struct Adjusted<'a, S> {
     pub below: S,
@@ -72,7 +72,7 @@ impl<S: BaselineSource> Adjusted<'_, S> {
         ensures value { result ≡ brought_by baseline (gap_on (S.meaning self.now.below) self.now.starts.now asked.customer asked.day) }
         ensures bounded { WithinBounds result }
     {
-        // Stays: (a) each load and profile by `let .. else`.
+        // Stays: each load and profile by `let .. else`.
         let Some(start) = adjusting_start(self.starts, asked.day) else {
             return baseline;
         };

@@ -61,7 +61,7 @@ impl FromStr for Method {
     ghost from_str_gives = { λ text r. r ≡ method_or_refusal text };
 
     fn from_str(text: &str) -> Result<Method, Refusal> {
-        // Stays: (a) the text is matched against the seven literals.
+        // Stays: the text is matched against the seven literals.
         match text {
             "max45" => Ok(MAX45),
             "mid610" => Ok(MID610),

@@ -58,7 +58,7 @@ impl<R: LoadRecord> Ranked<R> {
     {
         let mut days = References::new();
         let mut left = self.method.reach;
-        // Stays: (a) the search goes backward in a labelled loop, and is left from inside.
+        // Stays: the search goes backward in a labelled loop, and is left from inside.
         'search: for past in (0..asked.day).rev() {
             if days.len() == self.method.n || left == 0 {
                 break 'search;

@@ -13,7 +13,7 @@ pub(crate) const HIGHEST: i32 = 40_000_000;
 
 // Metered loads, profiles and baselines of some customers, in Wh.
 pub trait BaselineSource {
-    // Stays: (d) the clauses of the interface name their bounds in full for those who implement it.
+    // Stays: the clauses of the interface name their bounds in full for those who implement it.
     ghost meaning: { Self → SourceMeaning };
 
     // The metered load of a customer on a day in an hour, or none if it is missing.

@@ -128,7 +128,7 @@ impl Book {
         ensures answer { result ≡ back_or (refusal (finish (named_by slip)) (seen self.old lines.now charges.old)) slip }
         ensures book { seen self.new lines.now charges.new ≡ (step (finish (named_by slip)) (seen self.old lines.now charges.old)).1 }
     {
-        // Stays: (d) either arm takes the slip, and one closure could not.
+        // Stays: either arm takes the slip, and one closure could not.
         match self.correct(lines, charges, &slip) {
             Ok(()) => {
                 slip.spend();

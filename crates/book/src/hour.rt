@@ -45,7 +45,7 @@ impl<E: Copy> Hour<E> {
         ensures answer { result ≡ step_answer (step_refusal call self.old) self.old }
         ensures hour { self.new ≡ hour_after call self.old }
     {
-        // Stays: (a) the state of an hour and the call are matched together, and the hour is stepped in place.
+        // Stays: the state of an hour and the call are matched together, and the hour is stepped in place.
         match (*self, call) {
             (Hour::Told(energies), Step::Allot) | (Hour::Correcting(energies), Step::Finish) => {
                 *self = Hour::Allotted(energies);

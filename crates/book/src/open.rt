@@ -67,6 +67,7 @@ fn sound_resources(resources: &[Registration]) -> bool
     resources.iter().all(|resource| resource.is_sound())
 }
 
+// Stays: the two counts of a sound opening stand in three private steps of one call, whose tests stand in `may_open`.
 impl<'a> Opening<'a> {
     // What the book keeps of the opening.
     fn register(self) -> Register

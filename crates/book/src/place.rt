@@ -11,6 +11,7 @@ use crate::slip::Slip;
 use refusal::Refusal;
 use table::lines::{BuyerLine, ResourceLine};
 
+// Stays: each call is lent both lists apart, and only the one that it writes by `&mut`, which one value of both could not say.
 impl Book {
     // The number of an hour, refused unless it is one of the month.
     fn number_of(&self, at: MonthHour, refusal: Refusal) -> Result<HourNumber, Refusal>

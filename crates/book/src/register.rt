@@ -8,6 +8,7 @@ use settlement::terms::Kind;
 // A resource as an opening names it: kind 1 to 4, aggregator 1 to 99, customers 1 to 16.
 #[derive(Clone, Copy, PartialEq, Eq)]
 pub struct Registration {
+    // Stays: a number handed to a call may be anything, and one that no kind has is refused.
     pub kind: u32,
     pub aggregator: u32,
     pub customers: u32,
@@ -22,7 +23,7 @@ pub struct Resource {
 }
 
 // The plain part of a book: its number, its month and days, its resources and buyers.
-// Stays: (d) the classes are the opening's own bytes, as the definitions have them, and one place turns a byte into a `DayClass`.
+// Stays: the classes are the opening's own bytes, as the definitions have them, and one place turns a byte into a `DayClass`.
 #[derive(Clone, Copy, PartialEq, Eq)]
 pub struct Register {
     pub number: u32,

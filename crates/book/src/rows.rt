@@ -5,6 +5,7 @@ ghost use Rattle.table.specs.Tables.{filled};
 use table::lines::Amounts;
 use table::table::Table;
 
+// Stays: each makes a table over a lent list for one call of it; written out where they are called the loan would stand there as well.
 // Empties the lines of the first hours.
 pub(crate) fn clear<L: Amounts>(lines: &mut [L], width: u32, hours: u32)
     ensures value { lines.new ≡ filled lines.old 0 (hours * width) (λ _. L.Amounts.empty) }

@@ -27,7 +27,7 @@ pub struct Settling<'a, S, M> {
 }
 
 // The class of a day by its number.
-// Stays: (d) a day of the month has two classes, where the sources' conversion of a byte has a third for the other bytes.
+// Stays: a day of the month has two classes, where the sources' conversion of a byte has a third for the other bytes.
 fn class_of(class: u8) -> DayClass
     ensures value { result ≡ class_of class }
 {

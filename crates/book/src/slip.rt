@@ -8,7 +8,7 @@ use refusal::Refusal;
 pub struct Slip {
     pub(crate) number: u32,
     pub(crate) at: MonthHour,
-    // Stays: (a) a slip is no plain value, and may be let go only once it is spent.
+    // Stays: a slip is no plain value, and may be let go only once it is spent.
     spent: bool,
 }
 

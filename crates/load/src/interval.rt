@@ -18,7 +18,7 @@ impl LoadRecord for IntervalRecord<'_> {
         asked.load_in(self.loads)
     }
 
-    // Stays: (a) the record interface has two implementations; both only call what is shared.
+    // Stays: the record interface has two implementations; both only call what is shared.
     fn class(&self, day: u32) -> DayClass {
         class_in(self.classes, day)
     }

@@ -30,7 +30,7 @@ impl From<u8> for DayClass {
 
 // What the meters of some customers measured, in Wh.
 pub trait LoadRecord {
-    // Stays: (d) the clauses of the interface name their bounds in full for those who implement it.
+    // Stays: the clauses of the interface name their bounds in full for those who implement it.
     ghost meaning: { Self → LoadMeaning };
 
     // The load of a customer on a day in an hour, or none if it is missing.
@@ -44,6 +44,7 @@ pub trait LoadRecord {
         ensures value { result ≡ (meaning self.now).class day }
         ensures outside { is_day day ≡ false → result ≡ DayClass.Neither };
 
+    // Stays: a day stands or not for all its hours, so customer and day make no hour.
     // Whether a day may be a reference day of a customer.
     fn stands(&self, customer: u32, day: u32) -> bool
         ensures value { result ≡ (meaning self.now).stands customer day }

@@ -44,7 +44,7 @@ impl LoadRecord for RegisterRecord<'_> {
         plausible_load(counted_between(before, after))
     }
 
-    // Stays: (a) the record interface has two implementations; both only call what is shared.
+    // Stays: the record interface has two implementations; both only call what is shared.
     fn class(&self, day: u32) -> DayClass {
         class_in(self.classes, day)
     }

@@ -58,7 +58,7 @@ pub enum Refusal {
 
 impl Cause {
     // The number by which the cause is told.
-    // Stays: (d) a cast of the variant would hide the number that each is told by.
+    // Stays: a cast of the variant would hide the number that each is told by.
     pub fn number(self) -> u32
         ensures value { result ≡ cause_number self }
     {
@@ -72,7 +72,7 @@ impl Cause {
 
 impl Refusal {
     // The number by which the refusal is told.
-    // Stays: (d) the numbers have gaps and two variants hold a value, so no cast gives them.
+    // Stays: the numbers have gaps and two variants hold a value, so no cast gives them.
     pub fn number(self) -> u32
         ensures value { result ≡ refusal_number self }
     {

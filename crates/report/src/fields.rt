@@ -7,7 +7,7 @@ use crate::fault::Fault;
 use arrayvec::ArrayVec;
 
 // A number with one more digit behind it.
-// Stays: (c) `parse` takes a leading + too, and of a number past 32 bits does not say whether a byte that is no digit came first.
+// Stays: `parse` takes a leading + too, and of a number past 32 bits does not say whether a byte that is no digit came first.
 fn with_digit(number: u32, byte: u8) -> Result<u32, Fault>
     ensures value { result ≡ with_digit (Ok number) byte }
 {

@@ -113,7 +113,7 @@ pub(crate) fn place_of(meter: Meter, numbers: &[u32]) -> Result<usize, Fault>
 }
 
 // A mark: 0 or 1.
-// Stays: (d) the library has no conversion of a number to a `bool`.
+// Stays: the library has no conversion of a number to a `bool`.
 fn mark_of(number: u32) -> Result<bool, Fault>
     ensures value { result ≡ mark_in number }
 {
@@ -125,12 +125,12 @@ fn mark_of(number: u32) -> Result<bool, Fault>
 }
 
 // At most 16 marks, 0 where there is none.
-// Stays: (c) over `marks.iter_mut().zip(numbers)` nothing is known of the marks after the loop.
 fn marks_of(numbers: &[u32]) -> Result<[u8; 16], Fault>
     requires few { length numbers.now ≤ 16 }
     ensures value { result ≡ marks_written 0 numbers.now (replicate 16 0) }
 {
     let mut marks = [0; 16];
+    // Stays: over `marks.iter_mut().zip(numbers)` nothing is known of the marks after the loop.
     for (k, number) in numbers.iter().enumerate() {
         marks[k] = u8::from(mark_of(*number)?);
     }

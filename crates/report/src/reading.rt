@@ -18,7 +18,7 @@ const PLACES: usize = 36880;
 // Where nothing was read; as a load and as a reading it counts as missing.
 const NOTHING: u32 = 4_294_967_295;
 
-// Stays: (a) the records read the class of a day from a byte, and the left-out layer its marks.
+// Stays: the records read the class of a day from a byte, and the left-out layer its marks.
 // The byte of a day that is neither workday nor holiday.
 const NEITHER: u8 = 2;
 

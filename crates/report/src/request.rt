@@ -6,7 +6,7 @@ use crate::meter::Meter;
 use std::marker::Model;
 
 // A byte for each day by class, left out and start of the first order; a number for each load or reading.
-// Stays: (a) record, left-out layer and adjusting layer are each lent a table with a byte for each day, so the three lie apart.
+// Stays: record, left-out layer and adjusting layer are each lent a table with a byte for each day, so the three lie apart.
 #[derive(Drop)]
 pub struct Request {
     pub(crate) day: Option<u32>,

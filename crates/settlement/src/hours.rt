@@ -31,6 +31,7 @@ fn is_holiday_month(month: u32) -> bool
 pub fn takes_order(kind: Kind, class: DayClass, month: u32, hour: u32) -> bool
     ensures value { result ≡ takes_order kind class month hour }
 {
+    // Stays: the order hours are a `match` over the kind with guards, as the rules list them.
     match kind {
         Kind::Standard | Kind::SmallMedium
             if class == DayClass::Workday

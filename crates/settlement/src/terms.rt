@@ -49,6 +49,7 @@ impl Slot {
 pub struct Terms {
     pub plan: u32,
     pub order: u32,
+    // Stays: the two marks are each a yes or no of the order, and neither tells what another field holds.
     pub emergency: bool,
     pub test: bool,
     pub smp: u32,

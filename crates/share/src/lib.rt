@@ -9,6 +9,7 @@ ghost use Rattle.share.specs.Laws.{EachShare, AddUp, Near, WeightlessNone, Withi
 // An amount is shared among this many places at most.
 pub const PLACES: usize = 16;
 
+// Stays: the bounds of sixteen weights stand in three small steps of one call.
 // What the weights come to.
 fn total_of(weights: &[u32]) -> u64
     requires few { length weights.now ≤ 16 }
@@ -59,7 +60,7 @@ pub fn share_out(amount: i64, weights: &[u32]) -> Option<[i64; PLACES]>
         return Some(shares);
     }
     let mut before = 0u64;
-    // Stays: (c) after `iter_mut` a proof knows the length of the shares and none of them.
+    // Stays: after `iter_mut` a proof knows the length of the shares and none of them.
     for (k, weight) in weights.iter().enumerate() {
         let upto = before + u64::from(*weight);
         let share = share_of(amount, before, upto, total);

@@ -29,7 +29,7 @@ pub struct Entry {
 
 impl Key {
     // The key as it is written.
-    // Stays: (d) a sink takes bytes, and Display writes text through a formatter.
+    // Stays: a sink takes bytes, and Display writes text through a formatter.
     pub fn text(self) -> &'static [u8]
         ensures value { result.now ≡ key_text self }
         ensures bounded { length result.now ≤ 10 }

@@ -3,7 +3,7 @@ ghost use Rattle.sheet.specs.Tape.{page_tape};
 
 use crate::sink::Sink;
 
-// Stays: (d) a write into the library's cursor answers a Result, and a byte that is put always has its place.
+// Stays: a write into the library's cursor answers a Result, and a byte that is put always has its place.
 #[derive(Drop)]
 pub(crate) struct Page<'a> {
     pub(crate) buffer: &'a mut [u8],

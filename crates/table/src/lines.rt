@@ -26,7 +26,7 @@ pub trait Amounts: Copy {
     ghost most: { ℕ };
 
     // The line of an empty place.
-    // Stays: (d) with `Default` each sort would owe a law that its default is the empty line.
+    // Stays: with `Default` each sort would owe a law that its default is the empty line.
     fn empty() -> Self
         ensures value { result ≡ empty };
 

@@ -28,7 +28,7 @@ fn line_of<L: Amounts>(lines: &[L], place: usize) -> L
 }
 
 // Writes the line at a place of the list.
-// Stays: (c) after `get_mut` a proof knows the length of the list and no line of it.
+// Stays: after `get_mut` a proof knows the length of the list and no line of it.
 fn write<L: Amounts>(lines: &mut [L], place: usize, line: L)
     ensures value { lines.new ≡ slice_set lines.old place line }
 {
@@ -159,6 +159,7 @@ impl<'a, L: Amounts> Table<'a, L> {
         self.rows().sums(hour)
     }
 
+    // Stays: that the list lies where it lay and is as wide is said by each call that writes, as no invariant speaks of before and after.
     // Writes the line at a column of an hour's row.
     pub fn put(&mut self, hour: u32, column: u32, line: L)
         ensures after { self.new.lines.now ≡ slice_set self.old.lines.now (hour * self.old.width + column) line }
