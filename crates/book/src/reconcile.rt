@@ -7,7 +7,6 @@ ghost use Rattle.book.specs.Seen.{seen};
 
 use crate::book::Book;
 use refusal::Refusal;
-use std::ops::Add;
 use table::lines::{BuyerLine, ResourceLine};
 use table::table::Rows;
 
@@ -20,15 +19,13 @@ pub struct Reconciliation {
     pub refunds: i128,
 }
 
-// Sums are added where each is at most 2 ^ 100 won from nought.
-impl Add for Reconciliation {
-    type Output = Reconciliation;
-
-    ghost can_add = { λ a b. AllWithin (2 ^ 100) a × AllWithin (2 ^ 100) b };
-
-    ghost add_gives = { λ a b r. r ≡ added a b };
-
-    fn add(self, other: Reconciliation) -> Reconciliation {
+impl Reconciliation {
+    // These sums with others.
+    fn plus(self, other: Reconciliation) -> Reconciliation
+        requires self_within { AllWithin (2 ^ 100) self }
+        requires other_within { AllWithin (2 ^ 100) other }
+        ensures value { result ≡ added self other }
+    {
         Reconciliation {
             payments: self.payments + other.payments,
             fines: self.fines + other.fines,
@@ -81,7 +78,7 @@ impl Book {
         let mut sums = Reconciliation::default();
         let hours = self.register.days * 24;
         for h in 0..hours {
-            sums = sums + self.held_sums(lines, charges, h);
+            sums = sums.plus(self.held_sums(lines, charges, h));
         }
         sums
     }

@@ -21,7 +21,7 @@ pub struct Settling {
 }
 
 // What each buyer purchased in the hour, in kWh, the retailer first.
-#[derive(Drop)]
+#[derive(Clone, Drop)]
 pub struct Purchases {
     pub bought: ArrayVec<u32, 8>,
 }

@@ -60,7 +60,7 @@ pub fn share_out(amount: i64, weights: &[u32]) -> Option<[i64; PLACES]>
         return Some(shares);
     }
     let mut before = 0u64;
-    // Stays: after `iter_mut` a proof knows the length of the shares and none of them.
+    // Stays: over `shares.iter_mut().zip(weights)` nothing is known of the shares after the loop.
     for (k, weight) in weights.iter().enumerate() {
         let upto = before + u64::from(*weight);
         let share = share_of(amount, before, upto, total);

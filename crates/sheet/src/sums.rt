@@ -1,5 +1,5 @@
 // Counts and sums over the hours of a book.
-ghost use Rattle.std.specs.Prelude.{◌≡◌, ℕ, ◌+◌, ◌*◌, ◌<◌, Bool, slice_index_or};
+ghost use Rattle.std.specs.Prelude.{◌≡◌, ℕ, ◌+◌, ◌*◌, ◌^◌, ◌<◌, ◌+ℤ◌, Bool, slice_index_or, unsigned_abs};
 ghost use Rattle.book.specs.State.{hours_of};
 ghost use Rattle.sheet.specs.Evening.{count_to, over_allotted};
 
@@ -19,6 +19,20 @@ pub(crate) fn hours_that<T: Fn(u32) -> bool>(book: &Book, test: T) -> u32
     count
 }
 
+// Two sums together.
+// Stays: as the table's own, which is private, since it asks that what they come to fits.
+fn plus(sums: Sums, more: Sums) -> Sums
+    requires due_fits { unsigned_abs (sums.due +ℤ more.due) < 2 ^ 127 }
+    requires back_fits { unsigned_abs (sums.back +ℤ more.back) < 2 ^ 127 }
+    ensures due { result.due ≡ sums.due +ℤ more.due }
+    ensures back { result.back ≡ sums.back +ℤ more.back }
+{
+    Sums {
+        due: sums.due + more.due,
+        back: sums.back + more.back,
+    }
+}
+
 // What a column of lines comes to over the month's allotted hours.
 pub(crate) fn column_sums<L: Amounts>(book: &Book, rows: &Rows<L>, column: u32) -> Sums
     ensures due { result.due ≡ over_allotted book.now.register book.now.hours (λ h. L.Amounts.due (slice_index_or rows.now.lines.now (h * rows.now.width + column) L.Amounts.empty)) }
@@ -29,7 +43,7 @@ pub(crate) fn column_sums<L: Amounts>(book: &Book, rows: &Rows<L>, column: u32) 
         let allotted = book.holds_allotted(hour);
         if allotted {
             let line = rows.line(hour, column);
-            sums = sums + Sums::of(line);
+            sums = plus(sums, Sums::of(line));
         }
     }
     sums

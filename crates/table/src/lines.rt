@@ -26,7 +26,7 @@ pub trait Amounts: Copy {
     ghost most: { ℕ };
 
     // The line of an empty place.
-    // Stays: with `Default` each sort would owe a law that its default is the empty line.
+    // Stays: the trait names the empty line beside it for proofs, and `Default` has no such member.
     fn empty() -> Self
         ensures value { result ≡ empty };
 

@@ -4,7 +4,6 @@ ghost use Rattle.won.specs.Sums.{total_to};
 ghost use Rattle.table.specs.Tables.{filled};
 
 use crate::lines::Amounts;
-use std::ops::Add;
 
 // What the lines of a row come to, in won.
 #[derive(Clone, Copy, PartialEq, Eq, Debug, Default)]
@@ -28,7 +27,7 @@ fn line_of<L: Amounts>(lines: &[L], place: usize) -> L
 }
 
 // Writes the line at a place of the list.
-// Stays: after `get_mut` a proof knows the length of the list and no line of it.
+// Stays: after `get_mut` nothing is known of the list.
 fn write<L: Amounts>(lines: &mut [L], place: usize, line: L)
     ensures value { lines.new ≡ slice_set lines.old place line }
 {
@@ -71,15 +70,15 @@ impl Sums {
     }
 }
 
-// Sums are added where what they come to is below 2 ^ 127.
-impl Add for Sums {
-    type Output = Sums;
-
-    ghost can_add = { λ a b. (unsigned_abs (a.due +ℤ b.due) < 2 ^ 127) × (unsigned_abs (a.back +ℤ b.back) < 2 ^ 127) };
-
-    ghost add_gives = { λ a b r. (r.due ≡ a.due +ℤ b.due) × (r.back ≡ a.back +ℤ b.back) };
-
-    fn add(self, other: Sums) -> Sums {
+impl Sums {
+    // These sums with others.
+    // Stays: it asks that what they come to fits, which no public function may, so the sheet has its own.
+    fn plus(self, other: Sums) -> Sums
+        requires due_fits { unsigned_abs (self.due +ℤ other.due) < 2 ^ 127 }
+        requires back_fits { unsigned_abs (self.back +ℤ other.back) < 2 ^ 127 }
+        ensures due { result.due ≡ self.due +ℤ other.due }
+        ensures back { result.back ≡ self.back +ℤ other.back }
+    {
         Sums {
             due: self.due + other.due,
             back: self.back + other.back,
@@ -110,7 +109,7 @@ impl<'a, L: Amounts> Rows<'a, L> {
     {
         let mut sums = Sums::default();
         for column in 0..self.width {
-            sums = sums + Sums::of(self.line(hour, column));
+            sums = sums.plus(Sums::of(self.line(hour, column)));
         }
         sums
     }
