@@ -3,7 +3,7 @@
 
 pub mod corrections;
 #[cfg(test)]
-mod desk;
+mod may;
 #[cfg(test)]
 mod openings;
 #[cfg(test)]

@@ -1,5 +1,5 @@
 // Openings at their edges.
-use crate::desk::{OLD, OLD_LINE};
+use crate::may::{OLD, OLD_LINE};
 use book::book::Book;
 use book::open::Opening;
 use book::register::Registration;

@@ -1,5 +1,5 @@
 // Every refusal of the calls at its edge, after which book and lists are as they were.
-use crate::desk::{Desk, PLANNED, filed, on, reopen};
+use crate::may::{Desk, PLANNED, blank, filed, on, prepare, prepared, reopen};
 use refusal::{Cause, NoFigure, Refusal};
 use settlement::terms::Terms;
 use std::process::Abort;
@@ -13,11 +13,6 @@ const LACKING: NoFigure = NoFigure {
 
 // Tells hours outside the month, an allotted one, and energies that do not fit.
 fn telling(rt: &impl Abort, desk: &mut Desk) {
-    let Desk {
-        book,
-        lines,
-        charges,
-    } = desk;
     for (at, total, others, refusal) in [
         (on(0, 13), 3, &[1, 1][..], Refusal::NoSuchHour),
         (on(32, 13), 3, &[1, 1], Refusal::NoSuchHour),
@@ -36,17 +31,12 @@ fn telling(rt: &impl Abort, desk: &mut Desk) {
             Refusal::PurchasesExceedTotal,
         ),
     ] {
-        assert_eq!(rt; book.tell(lines, charges, at, total, others), Err(refusal));
+        assert_eq!(rt; desk.tell(at, total, others), Err(refusal));
     }
 }
 
 // Settles an hour outside the month, an unknown resource, an allotted hour, terms that do not fit, an order outside its hours, and a day past the figures.
 fn settling(rt: &impl Abort, desk: &mut Desk) {
-    let Desk {
-        book,
-        lines,
-        charges,
-    } = desk;
     let marked = Terms {
         test: true,
         ..PLANNED
@@ -71,7 +61,7 @@ fn settling(rt: &impl Abort, desk: &mut Desk) {
         (0, on(5, 12), order, 1, Refusal::Scheduled(LACKING)),
         (0, on(5, 12), order, 0, Refusal::Mandatory(LACKING)),
     ] {
-        let settled = book.settle(lines, charges, &filed(resource, at, terms, &[mark]));
+        let settled = desk.settle(&filed(resource, at, terms, &[mark]));
         assert_eq!(rt; settled, Err(refusal));
     }
 }
@@ -84,9 +74,7 @@ fn withdrawing(rt: &impl Abort, desk: &mut Desk) {
         (0, on(1, 11), Refusal::HourAllotted),
         (0, on(1, 13), Refusal::NoLine),
     ] {
-        let withdrawn = desk
-            .book
-            .withdraw(&mut desk.lines, &desk.charges, resource, at);
+        let withdrawn = desk.withdraw(resource, at);
         assert_eq!(rt; withdrawn, Err(refusal));
     }
 }
@@ -98,7 +86,7 @@ fn allotting(rt: &impl Abort, desk: &mut Desk) {
         (on(1, 11), Refusal::HourAllotted),
         (on(1, 13), Refusal::NoEnergies),
     ] {
-        let allotted = desk.book.allot(&desk.lines, &mut desk.charges, at);
+        let allotted = desk.allot(at);
         assert_eq!(rt; allotted, Err(refusal));
     }
 }
@@ -118,49 +106,30 @@ fn reopening(rt: &impl Abort, desk: &mut Desk) {
 
 // Reads lines and charges that are not there.
 fn reading(rt: &impl Abort, desk: &Desk) {
-    let Desk {
-        book,
-        lines,
-        charges,
-    } = desk;
     for (resource, at, refusal) in [
         (1, on(1, 25), Refusal::NoSuchHour),
         (1, on(1, 13), Refusal::NoSuchResource),
         (0, on(1, 13), Refusal::NoLine),
     ] {
-        assert_eq!(rt; book.read_line(lines, charges, resource, at), Err(refusal));
+        assert_eq!(rt; desk.read_line(resource, at), Err(refusal));
     }
     for (buyer, at, refusal) in [
         (3, on(32, 11), Refusal::NoSuchHour),
         (3, on(1, 12), Refusal::NoSuchBuyer),
         (2, on(1, 12), Refusal::HourNotAllotted),
     ] {
-        assert_eq!(rt; book.read_charge(lines, charges, buyer, at), Err(refusal));
+        assert_eq!(rt; desk.read_charge(buyer, at), Err(refusal));
     }
 }
 
 // A book not yet opened names no hour.
 fn unopened(rt: &impl Abort, desk: &mut Desk) {
-    let Desk {
-        book,
-        lines,
-        charges,
-    } = desk;
     let at = on(1, 11);
     let settling = filed(0, at, PLANNED, &[1]);
-    assert_eq!(rt;
-        book.tell(lines, charges, at, 3, &[1, 1]),
-        Err(Refusal::NoSuchHour)
-    );
-    assert_eq!(rt;
-        book.settle(lines, charges, &settling),
-        Err(Refusal::NoSuchHour)
-    );
-    assert_eq!(rt; book.allot(lines, charges, at), Err(Refusal::NoSuchHour));
-    assert_eq!(rt;
-        book.read_line(lines, charges, 0, at),
-        Err(Refusal::NoSuchHour)
-    );
+    assert_eq!(rt; desk.tell(at, 3, &[1, 1]), Err(Refusal::NoSuchHour));
+    assert_eq!(rt; desk.settle(&settling), Err(Refusal::NoSuchHour));
+    assert_eq!(rt; desk.allot(at), Err(Refusal::NoSuchHour));
+    assert_eq!(rt; desk.read_line(0, at), Err(Refusal::NoSuchHour));
 }
 
 // A prepared book refuses lists shorter than the measure before anything else.
@@ -209,18 +178,18 @@ fn measured_too(rt: &impl Abort, desk: &mut Desk) {
 
 #[test]
 fn every_refusal_leaves_all_as_it_was(rt: HostRuntime) -> Result<(), Fail> {
-    let mut desk = Desk::new();
+    let mut desk = blank();
     unopened(&rt, &mut desk);
-    desk.prepare()?;
+    prepare(&mut desk)?;
     telling(&rt, &mut desk);
     settling(&rt, &mut desk);
     withdrawing(&rt, &mut desk);
     allotting(&rt, &mut desk);
     reopening(&rt, &mut desk);
     reading(&rt, &desk);
-    assert!(rt; desk == Desk::prepared()?);
+    assert!(rt; desk == prepared()?);
     measured(&rt, &mut desk);
     measured_too(&rt, &mut desk);
-    assert!(rt; desk == Desk::prepared()?);
+    assert!(rt; desk == prepared()?);
     Ok(())
 }

@@ -1,6 +1,6 @@
 // Corrections in orders nobody planned, with figures worked by hand.
 use crate::corrections::{correct, offer_elsewhere};
-use crate::desk::{Desk, OLD, OLD_LINE, PLANNED, on};
+use crate::may::{Desk, OLD, OLD_LINE, PLANNED, on, prepared};
 use baseline::filed::FiledSource;
 use book::book::Book;
 use book::reconcile::Reconciliation;
@@ -37,7 +37,7 @@ fn charged(rt: &impl Abort, desk: &Desk, expected: [(i64, i64); 3]) {
 
 // The month comes to these payments and fines, and to charges and refunds alike.
 fn comes_to(rt: &impl Abort, desk: &Desk, payments: i128, fines: i128) -> Result<(), Refusal> {
-    let sums = desk.book.reconcile(&desk.lines, &desk.charges)?;
+    let sums = desk.reconcile()?;
     let expected = Reconciliation {
         payments,
         fines,
@@ -51,7 +51,7 @@ fn comes_to(rt: &impl Abort, desk: &Desk, payments: i128, fines: i128) -> Result
 // A prepared book, corrected twice, with its other hour allotted then.
 #[test]
 fn corrections_in_an_order_nobody_planned(rt: HostRuntime) -> Result<(), Fail> {
-    let mut desk = Desk::prepared()?;
+    let mut desk = prepared()?;
     charged(
         &rt,
         &desk,
@@ -62,7 +62,7 @@ fn corrections_in_an_order_nobody_planned(rt: HostRuntime) -> Result<(), Fail> {
     corrected(&rt, &mut desk)?;
     charged(&rt, &desk, [(0, 0), (43_380, 4_820), (65_070, 7_230)]);
     comes_to(&rt, &desk, 108_450, 12_050)?;
-    desk.book.allot(&desk.lines, &mut desk.charges, on(1, 12))?;
+    desk.allot(on(1, 12))?;
     let allotted = BuyerLine {
         charge: 96_400,
         refund: 24_100,
@@ -76,7 +76,7 @@ fn corrections_in_an_order_nobody_planned(rt: HostRuntime) -> Result<(), Fail> {
 // Another book refuses the slip of this one, and all is as it was once the slip is spent at home.
 #[test]
 fn a_slip_is_of_one_book(rt: HostRuntime) -> Result<(), Fail> {
-    let mut desk = Desk::prepared()?;
+    let mut desk = prepared()?;
     let mut other = Book::new();
     let Desk {
         book,
@@ -94,6 +94,6 @@ fn a_slip_is_of_one_book(rt: HostRuntime) -> Result<(), Fail> {
     )?;
     assert_eq!(rt; answer, Err(Refusal::WrongSlip));
     assert!(rt; other == Book::new());
-    assert!(rt; desk == Desk::prepared()?);
+    assert!(rt; desk == prepared()?);
     Ok(())
 }

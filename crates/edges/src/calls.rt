@@ -1,5 +1,5 @@
 // The book's calls at their edges, each refusal in its order, and the shares.
-use crate::desk::{BEYOND, Desk, NO_CUTS, PLANNED, on};
+use crate::may::{BEYOND, Desk, NO_CUTS, PLANNED, allotted, blank, on, opened, settle};
 use crate::outcome::Tally;
 use book::reconcile::Reconciliation;
 use refusal::Refusal;
@@ -7,7 +7,7 @@ use settlement::terms::Terms;
 
 // Telling at its edges.
 pub fn telling(tally: &mut Tally) -> anyhow::Result<()> {
-    let mut desk = Desk::allotted()?;
+    let mut desk = allotted()?;
     for (what, at, total, others, expected) in [
         (
             "tell on day 0",
@@ -126,7 +126,7 @@ pub fn telling(tally: &mut Tally) -> anyhow::Result<()> {
 
 // Settling, withdrawing and reading a line at their edges.
 pub fn lines(tally: &mut Tally) -> anyhow::Result<()> {
-    let mut desk = Desk::allotted()?;
+    let mut desk = allotted()?;
     let nothing = Terms { plan: 0, ..PLANNED };
     for (what, resource, at, terms, refusal) in [
         (
@@ -154,7 +154,7 @@ pub fn lines(tally: &mut Tally) -> anyhow::Result<()> {
         tally.note(
             what,
             Err(refusal),
-            desk.settle(resource, at, terms, NO_CUTS),
+            settle(&mut desk, resource, at, terms, NO_CUTS),
         )?;
     }
     for (what, resource, at, expected) in [
@@ -210,7 +210,7 @@ pub fn lines(tally: &mut Tally) -> anyhow::Result<()> {
 
 // Allotting and reading a charge at their edges.
 pub fn allotting(tally: &mut Tally) -> anyhow::Result<()> {
-    let mut desk = Desk::allotted()?;
+    let mut desk = allotted()?;
     for (what, at, refusal) in [
         ("allot in hour 25", on(1, 25), Refusal::NoSuchHour),
         ("allot an allotted hour", on(1, 11), Refusal::HourAllotted),
@@ -295,9 +295,9 @@ pub fn shares(tally: &mut Tally) -> anyhow::Result<()> {
             60,
         ),
     ] {
-        let mut desk = Desk::may(1)?;
+        let mut desk = opened(1)?;
         desk.tell(on(1, 11), total, &others)?;
-        desk.settle(0, on(1, 11), Terms { plan, ..PLANNED }, NO_CUTS)?;
+        settle(&mut desk, 0, on(1, 11), Terms { plan, ..PLANNED }, NO_CUTS)?;
         desk.allot(on(1, 11))?;
         let refund = desk.read_charge(buyer, on(1, 11)).map(|line| line.refund);
         tally.note(what, Ok(expected), refund)?;
@@ -307,12 +307,12 @@ pub fn shares(tally: &mut Tally) -> anyhow::Result<()> {
 
 // A book not yet opened.
 pub fn unopened(tally: &mut Tally) -> anyhow::Result<()> {
-    let mut desk = Desk::new();
+    let mut desk = blank();
     for (what, answer) in [
         ("unopened: tell", desk.tell(on(1, 1), 3, &[1, 1])),
         (
             "unopened: settle",
-            desk.settle(0, on(1, 1), PLANNED, NO_CUTS),
+            settle(&mut desk, 0, on(1, 1), PLANNED, NO_CUTS),
         ),
         ("unopened: withdraw", desk.withdraw(0, on(1, 1))),
         ("unopened: allot", desk.allot(on(1, 1))),
@@ -337,7 +337,7 @@ pub fn unopened(tally: &mut Tally) -> anyhow::Result<()> {
 
 // Lists shorter than the measure, and what lies beyond it.
 pub fn lists(tally: &mut Tally) -> anyhow::Result<()> {
-    let mut desk = Desk::allotted()?;
+    let mut desk = allotted()?;
     let Desk {
         book,
         lines,
@@ -360,10 +360,10 @@ pub fn lists(tally: &mut Tally) -> anyhow::Result<()> {
         true,
         charges[2232] == BEYOND && charges[2231].charge == 0,
     )?;
-    let allotted = desk.allot(on(1, 12));
+    let answer = desk.allot(on(1, 12));
     tally.note(
         "an hour told over lists as long as the measure",
         Ok(()),
-        allotted,
+        answer,
     )
 }

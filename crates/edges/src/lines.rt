@@ -1,5 +1,7 @@
 // The hour's line: order hours, limits, marks, worked figures and misreadings.
-use crate::desk::{Cuts, Desk, MAY, NO_CUTS, NOTHING, PLANNED, STANDARD, on};
+use crate::may::{
+    Cuts, MAY, NO_CUTS, NOTHING, PLANNED, STANDARD, blank, on, opened, settle, settle_marked,
+};
 use crate::outcome::{Outcome, Tally};
 use book::open::Opening;
 use book::read::LineReading;
@@ -19,14 +21,14 @@ const ORDERED: Terms = Terms {
 fn order_in(kind: u32, month: u32, class: u8, hour: u32) -> Result<(), Refusal> {
     let days = if month == 6 { 30 } else { 31 };
     let classes = [class; 31];
-    let mut desk = Desk::new();
+    let mut desk = blank();
     desk.open(Opening {
         month,
         classes: &classes[..days],
         resources: &[Registration { kind, ..STANDARD }],
         ..MAY
     })?;
-    desk.settle(0, on(1, hour), ORDERED, NO_CUTS)
+    settle(&mut desk, 0, on(1, hour), ORDERED, NO_CUTS)
 }
 
 // Orders at the edges of their hours.
@@ -113,7 +115,7 @@ pub fn order_hours(tally: &mut Tally) -> anyhow::Result<()> {
 
 // Terms at their limits and one past, and the order of the tests.
 pub fn limits(tally: &mut Tally) -> anyhow::Result<()> {
-    let mut desk = Desk::may(1)?;
+    let mut desk = opened(1)?;
     let least = Terms { plan: 1, ..NOTHING };
     for (what, terms, expected) in [
         (
@@ -194,7 +196,11 @@ pub fn limits(tally: &mut Tally) -> anyhow::Result<()> {
             Err(Refusal::AboveLimit),
         ),
     ] {
-        tally.note(what, expected, desk.settle(0, on(1, 11), terms, NO_CUTS))?;
+        tally.note(
+            what,
+            expected,
+            settle(&mut desk, 0, on(1, 11), terms, NO_CUTS),
+        )?;
     }
     Ok(())
 }
@@ -207,7 +213,7 @@ const LACKING: NoFigure = NoFigure {
 
 // Marks without an order, and which test comes first.
 pub fn first_tests(tally: &mut Tally) -> anyhow::Result<()> {
-    let mut desk = Desk::may(1)?;
+    let mut desk = opened(1)?;
     let plan = Terms { plan: 1, ..NOTHING };
     let order = Terms {
         order: 1,
@@ -302,7 +308,11 @@ pub fn first_tests(tally: &mut Tally) -> anyhow::Result<()> {
             Ok(()),
         ),
     ] {
-        tally.note(what, expected, desk.settle(0, on(1, hour), terms, cuts))?;
+        tally.note(
+            what,
+            expected,
+            settle(&mut desk, 0, on(1, hour), terms, cuts),
+        )?;
     }
     Ok(())
 }
@@ -455,8 +465,8 @@ pub fn figures(tally: &mut Tally) -> anyhow::Result<()> {
             Figure::Paid(96_400),
         ),
     ] {
-        let mut desk = Desk::may(1)?;
-        desk.settle(0, on(1, 11), terms, cuts)?;
+        let mut desk = opened(1)?;
+        settle(&mut desk, 0, on(1, 11), terms, cuts)?;
         let figure = desk
             .read_line(0, on(1, 11))
             .map(|line| expected.in_line(line));
@@ -482,33 +492,33 @@ pub fn marks(tally: &mut Tally) -> anyhow::Result<()> {
             11,
         ),
     ] {
-        let mut desk = Desk::may(customers)?;
-        desk.settle_marked(PLANNED, &marks)?;
+        let mut desk = opened(customers)?;
+        settle_marked(&mut desk, PLANNED, &marks)?;
         let sr = desk.read_line(0, on(1, 11)).map(|line| line.sr);
         tally.note(what, Ok(expected), sr)?;
     }
-    let mut desk = Desk::may(4)?;
-    desk.settle_marked(PLANNED, &[1])?;
+    let mut desk = opened(4)?;
+    settle_marked(&mut desk, PLANNED, &[1])?;
     let sr = desk.read_line(0, on(1, 11)).map(|line| line.sr);
     tally.note("a customer without a mark takes no part", Ok(1), sr)?;
-    desk.settle_marked(ORDERED, &[])?;
+    settle_marked(&mut desk, ORDERED, &[])?;
     let dr = desk.read_line(0, on(1, 11)).map(|line| line.dr);
     tally.note(
         "an order asks all customers whatever the marks",
         Ok(1_111),
         dr,
     )?;
-    let mut desk = Desk::may(5)?;
+    let mut desk = opened(5)?;
     let lacking = NoFigure {
         customer: 4,
         ..LACKING
     };
-    let settled = desk.settle_marked(PLANNED, &[1; 5]);
+    let settled = settle_marked(&mut desk, PLANNED, &[1; 5]);
     tally.note(
         "the customer without a figure is named",
         Err(Refusal::Scheduled(lacking)),
         settled,
     )?;
-    let settled = desk.settle_marked(PLANNED, &[1; 4]);
+    let settled = settle_marked(&mut desk, PLANNED, &[1; 4]);
     tally.note("one who takes no part is not asked", Ok(()), settled)
 }

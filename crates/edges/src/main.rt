@@ -2,8 +2,8 @@
 #![tactic(auto)]
 
 mod calls;
-mod desk;
 mod lines;
+mod may;
 mod openings;
 mod outcome;
 mod records;

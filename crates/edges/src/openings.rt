@@ -1,5 +1,5 @@
 // Openings at their edges.
-use crate::desk::{Desk, MAY, STANDARD};
+use crate::may::{MAY, STANDARD, blank};
 use crate::outcome::Tally;
 use book::book::Book;
 use book::open::Opening;
@@ -59,7 +59,7 @@ pub fn months(tally: &mut Tally) -> anyhow::Result<()> {
             Err(Refusal::BadMonth),
         ),
     ] {
-        let mut desk = Desk::new();
+        let mut desk = blank();
         let opening = Opening {
             month,
             classes,
@@ -67,7 +67,7 @@ pub fn months(tally: &mut Tally) -> anyhow::Result<()> {
         };
         tally.note(what, expected, desk.open(opening))?;
     }
-    let mut desk = Desk::new();
+    let mut desk = blank();
     for (what, month, classes, resource, expected) in [
         (
             "a class byte of 2",
@@ -115,7 +115,7 @@ pub fn resources(tally: &mut Tally) -> anyhow::Result<()> {
         ("16 customers", named(1, 12, 16), Ok(())),
         ("17 customers", named(1, 12, 17), Err(Refusal::BadResource)),
     ] {
-        let mut desk = Desk::new();
+        let mut desk = blank();
         let opening = Opening {
             first_day: 0,
             buyers: 1,

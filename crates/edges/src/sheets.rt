@@ -1,22 +1,20 @@
 // The evening sheet at its edges.
-use crate::desk::Desk;
+use crate::may::{Desk, allotted};
 use crate::outcome::Tally;
 use book::book::Book;
 use refusal::Refusal;
 use sheet::sheet::write_sheet;
 
-impl Desk {
-    // Writes the sheet into a buffer, and says how long it is.
-    fn sheet(&self, buffer: &mut [u8]) -> Result<usize, Refusal> {
-        write_sheet(&self.book, &self.lines, &self.charges, buffer)
-    }
+// Writes the sheet of a desk into a buffer, and says how long it is.
+fn write(desk: &Desk, buffer: &mut [u8]) -> Result<usize, Refusal> {
+    write_sheet(&desk.book, &desk.lines, &desk.charges, buffer)
 }
 
 // The sheet of a book with 100 won charged 33, 33 and 34 has 171 bytes.
 pub fn sheets(tally: &mut Tally) -> anyhow::Result<()> {
-    let desk = Desk::allotted()?;
+    let desk = allotted()?;
     let mut exact = [255; 171];
-    let length = desk.sheet(&mut exact);
+    let length = write(&desk, &mut exact);
     tally.note("a sheet over a buffer as long as its text", Ok(171), length)?;
     tally.note(
         "its last byte is 10, after the last digit (1 is yes)",
@@ -24,7 +22,7 @@ pub fn sheets(tally: &mut Tally) -> anyhow::Result<()> {
         exact[170] == 10 && exact[169] == b'0',
     )?;
     let mut short = [255; 170];
-    let length = desk.sheet(&mut short);
+    let length = write(&desk, &mut short);
     tally.note(
         "a sheet over a buffer one byte short",
         Err(Refusal::ShortBuffer),
@@ -36,7 +34,7 @@ pub fn sheets(tally: &mut Tally) -> anyhow::Result<()> {
         short[0] == 255 && short[85] == 255 && short[169] == 255,
     )?;
     let mut long = [255; 180];
-    let length = desk.sheet(&mut long);
+    let length = write(&desk, &mut long);
     tally.note("a sheet over a longer buffer", Ok(171), length)?;
     tally.note(
         "bytes beyond the text stay (1 is yes)",
@@ -47,7 +45,7 @@ pub fn sheets(tally: &mut Tally) -> anyhow::Result<()> {
 
 // A sheet over short lists, and of a book not yet opened.
 pub fn head_lines(tally: &mut Tally) -> anyhow::Result<()> {
-    let Desk { book, charges, .. } = &Desk::allotted()?;
+    let Desk { book, charges, .. } = &allotted()?;
     tally.note(
         "a sheet over no lines and no buffer: 7 comes before 30",
         Err(Refusal::ShortLists),

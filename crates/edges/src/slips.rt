@@ -1,40 +1,21 @@
 // Corrections: slips handed out, spent, refused and handed back.
-ghost use Rattle.std.specs.Prelude.{◌≡◌, IfErr, IfOk};
 ghost use Rattle.book.specs.Seen.{named_by};
 ghost use Rattle.std.specs.Fn.{FnOnceReturnsAtMut};
 ghost use Rattle.book.specs.Slips.{Finishes, Keeps};
-ghost use Rattle.edges.specs.Keeping.{on_desk};
-ghost use Rattle.edges.specs.declared.desk.Desk.{Desk};
+ghost use Rattle.desk.specs.Keeping.{on_desk};
+ghost use Rattle.desk.specs.declared.Desk.{Desk};
 
-use crate::desk::{Desk, on};
+use crate::may::{Desk, allotted, blank, on};
 use crate::outcome::{Outcome, Tally};
 use book::month_hour::MonthHour;
 use book::slip::{RefusedSlip, Slip};
 use refusal::Refusal;
 
-impl Desk {
-    // Reopens an hour.
-    fn reopen(&mut self, at: MonthHour) -> Result<Slip, Refusal>
-        ensures finishes { IfOk result (λ slip. Finishes (on_desk self.new) (named_by slip)) }
-    {
-        self.book.reopen(&self.lines, &mut self.charges, at)
-    }
-
-    // Finishes an hour with a slip that is known to be good.
-    fn finish(&mut self, slip: Slip)
-        requires { Finishes (on_desk self.old) (named_by slip) }
-    {
-        self.book
-            .finish(&self.lines, &mut self.charges, slip)
-            .unwrap();
-    }
-
-    // Tries to finish with a slip, which comes back if it is refused.
-    fn offer(&mut self, slip: Slip) -> Result<(), RefusedSlip>
-        ensures back { IfErr result (λ refused. refused.slip ≡ slip) }
-    {
-        self.book.finish(&self.lines, &mut self.charges, slip)
-    }
+// Finishes an hour with a slip that is known to be good.
+fn finish(desk: &mut Desk, slip: Slip)
+    requires { Finishes (on_desk desk.old) (named_by slip) }
+{
+    desk.offer(slip).unwrap();
 }
 
 // Reopens an hour, does work that leaves its slip good, and finishes it; what the work came to.
@@ -44,11 +25,11 @@ fn corrected<T, F: FnOnce(&mut Desk) -> T>(
     work: F,
 ) -> Result<T, Refusal>
     requires callable { F.IsAlwaysCallable work }
-    requires keeps { (b c : Desk) (answer : T) → FnOnceReturnsAtMut F.FnOnce work b answer c → Keeps (on_desk b) (on_desk c) }
+    requires keeps { (b c : Desk 745 2233) (answer : T) → FnOnceReturnsAtMut F.FnOnce work b answer c → Keeps (on_desk b) (on_desk c) }
 {
     let slip = desk.reopen(at)?;
     let answer = work(desk);
-    desk.finish(slip);
+    finish(desk, slip);
     Ok(answer)
 }
 
@@ -58,7 +39,7 @@ fn offered(desk: &mut Desk, other: &mut Desk) -> Result<[Outcome; 2], Refusal> {
     match other.offer(slip) {
         Ok(()) => Ok([Outcome::Granted, Outcome::Missing]),
         Err(RefusedSlip { refusal, slip }) => {
-            desk.finish(slip);
+            finish(desk, slip);
             Ok([Outcome::Refused(refusal), Outcome::Granted])
         }
     }
@@ -66,7 +47,7 @@ fn offered(desk: &mut Desk, other: &mut Desk) -> Result<[Outcome; 2], Refusal> {
 
 // Reopening and finishing at their edges.
 pub fn corrections(tally: &mut Tally) -> anyhow::Result<()> {
-    let mut desk = Desk::allotted()?;
+    let mut desk = allotted()?;
     for (what, at, expected) in [
         ("reopen on day 0", on(0, 11), Err(Refusal::NoSuchHour)),
         (
@@ -93,22 +74,22 @@ pub fn corrections(tally: &mut Tally) -> anyhow::Result<()> {
     )?;
     let charge = desk.read_charge(1, on(1, 11)).map(|line| line.charge);
     tally.note("buyer 1's charge after the correction", Ok(40), charge)?;
-    let allotted = corrected(&mut desk, on(1, 11), |desk| desk.allot(on(1, 11)))?;
+    let answer = corrected(&mut desk, on(1, 11), |desk| desk.allot(on(1, 11)))?;
     tally.note(
         "allot an hour in correction",
         Err(Refusal::HourInCorrection),
-        allotted,
+        answer,
     )
 }
 
 // Slips of another book.
 pub fn other_books(tally: &mut Tally) -> anyhow::Result<()> {
-    let mut desk = Desk::allotted()?;
-    let [refused, finished] = offered(&mut desk, &mut Desk::new())?;
+    let mut desk = allotted()?;
+    let [refused, finished] = offered(&mut desk, &mut blank())?;
     let wrong = Outcome::Refused(Refusal::WrongSlip);
     tally.note("an unopened book is offered a slip", wrong, refused)?;
     tally.note("the slip handed back is good", Outcome::Granted, finished)?;
-    let [refused, finished] = offered(&mut desk, &mut Desk::allotted()?)?;
+    let [refused, finished] = offered(&mut desk, &mut allotted()?)?;
     tally.note(
         "a book of the same number whose hour is not in correction is offered a slip",
         wrong,

@@ -1,6 +1,6 @@
 // What a desk should hold, and how often it was compared.
+use crate::calls::Desk;
 use crate::counts::{Call, Counts};
-use crate::desk::Desk;
 use crate::ledger::Ledger;
 use crate::plain::{Entry, WAYS};
 use crate::random::Random;

@@ -4,7 +4,6 @@
 mod audit;
 mod calls;
 mod counts;
-mod desk;
 mod draws;
 mod ledger;
 mod meters;
@@ -21,8 +20,8 @@ use audit::Audit;
 use book::open::Opening;
 use book::reconcile::Reconciliation;
 use book::register::Registration;
+use calls::{Desk, blank};
 use counts::{CALLS, Call, Counts};
-use desk::Desk;
 use ledger::{HourState, Ledger};
 use meters::Meters;
 use random::Random;
@@ -52,8 +51,8 @@ fn begin() -> Trial {
     let meters = Meters::new(&mut random);
     let classes: [u8; 30] = array::from_fn(|_| u8::from(random.one_in(3)));
     let mut trial = Trial {
-        desk: Desk::new(),
-        other: Desk::new(),
+        desk: blank(),
+        other: blank(),
         audit: Audit {
             ledger: Ledger::new(classes),
             counts: Counts::new(),

@@ -1,8 +1,8 @@
 // Openings at random, sound and unsound.
 ghost use Rattle.std.specs.Prelude.{◌≤◌};
 
+use crate::calls::blank;
 use crate::counts::{Call, Counts};
-use crate::desk::Desk;
 use crate::random::Random;
 use book::open::Opening;
 use book::register::Registration;
@@ -141,7 +141,7 @@ pub fn try_open(counts: &mut Counts, random: &mut Random) {
         buyers,
         resources: &resources[..count],
     };
-    let mut desk = Desk::new();
+    let mut desk = blank();
     let expected = may_open(opening);
     counts.note(Call::Open, expected, desk.open(opening));
     let again = expected.and(Err(Refusal::AlreadyOpened));

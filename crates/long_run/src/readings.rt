@@ -1,6 +1,6 @@
 // The readings of a desk, each with what the ledger says of it.
+use crate::calls::Desk;
 use crate::counts::Call;
-use crate::desk::Desk;
 use crate::ledger::Ledger;
 use crate::plain::Entry;
 use book::book::Book;
@@ -30,7 +30,7 @@ impl Reading for Entry {
     }
 
     fn read(desk: &Desk, number: u32, at: MonthHour) -> Result<Entry, Refusal> {
-        let line = desk.book.read_line(&desk.lines, &desk.charges, number, at)?;
+        let line = desk.read_line(number, at)?;
         Ok(Entry::from(line))
     }
 
@@ -50,8 +50,7 @@ impl Reading for BuyerLine {
     }
 
     fn read(desk: &Desk, number: u32, at: MonthHour) -> Result<BuyerLine, Refusal> {
-        desk.book
-            .read_charge(&desk.lines, &desk.charges, number, at)
+        desk.read_charge(number, at)
     }
 
     fn read_short(desk: &Desk, number: u32, at: MonthHour) -> Result<BuyerLine, Refusal> {

@@ -2,11 +2,11 @@
 ghost use Rattle.std.specs.Prelude.{◌≡◌, IfSome};
 ghost use Rattle.book.specs.Seen.{named_by};
 ghost use Rattle.book.specs.Slips.{Finishes, Keeps};
-ghost use Rattle.long_run.specs.Keeping.{on_desk, New, KeepsOthers};
+ghost use Rattle.desk.specs.Keeping.{on_desk, New, KeepsOthers};
 
 use crate::audit::Audit;
+use crate::calls::{Desk, allot_short, finish, tell_short, withdraw_short};
 use crate::counts::Call;
-use crate::desk::Desk;
 use crate::meters::Meters;
 use crate::openings::try_open;
 use crate::plain::{Choice, Entry};
@@ -157,7 +157,7 @@ impl Trial {
         requires { Finishes (on_desk self.old.desk) (named_by slip) }
         ensures keeps { KeepsOthers (on_desk self.old.desk) (named_by slip) (on_desk self.new.desk) }
     {
-        self.desk.finish(slip);
+        finish(&mut self.desk, slip);
         let expected = self.audit.ledger.finish(at);
         self.audit
             .check(&self.desk, at, Call::Finish, expected, Ok(()));
@@ -221,9 +221,9 @@ impl Trial {
     // A call on the other desk over a list that is too short.
     fn other_short(&mut self) {
         let (call, got) = match self.random.below(3) {
-            0 => (Call::Tell, self.other.tell_short()),
-            1 => (Call::Withdraw, self.other.withdraw_short()),
-            _ => (Call::Allot, self.other.allot_short()),
+            0 => (Call::Tell, tell_short(&mut self.other)),
+            1 => (Call::Withdraw, withdraw_short(&mut self.other)),
+            _ => (Call::Allot, allot_short(&mut self.other)),
         };
         self.audit.counts.note(call, Err(Refusal::ShortLists), got);
     }

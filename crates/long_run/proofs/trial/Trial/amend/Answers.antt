@@ -3,7 +3,7 @@ use Rattle.book.specs.declared.slip.Slip as handed
 use Rattle.book.specs.Calls.{Slip, refusal}
 use Rattle.book.specs.Calls.Call.{finish}
 use Rattle.book.specs.Seen.{named_by}
-use Rattle.long_run.specs.Keeping.{on_desk}
+use Rattle.desk.specs.Keeping.{on_desk}
 use Rattle.long_run.proofs.trial.Trial.amend.Goals as goal
 
 pub finish-requires : goal.finish-requires

@@ -1,4 +1,4 @@
-// A book of May with one resource and three buyers, its two lists a place longer than the measure.
+// A book of May with one resource and three buyers.
 use crate::corrections::finish;
 use baseline::filed::FiledSource;
 use book::book::Book;
@@ -66,57 +66,40 @@ pub(crate) fn filed(
     }
 }
 
-// A book, and the lists that its calls are lent.
-#[derive(Drop, PartialEq)]
-pub(crate) struct Desk {
-    pub(crate) book: Book,
-    pub(crate) lines: [ResourceLine; 745],
-    pub(crate) charges: [BuyerLine; 2233],
+// A desk for 31 days, one resource and three buyers, each list a place longer than the measure.
+pub(crate) type Desk = desk::Desk<745, 2233>;
+
+// A book not yet opened, with old lists.
+pub(crate) fn blank() -> Desk {
+    Desk::new(OLD_LINE, OLD)
 }
 
-impl Desk {
-    // A book not yet opened, with old lists.
-    pub(crate) fn new() -> Desk {
-        Desk {
-            book: Book::new(),
-            lines: [OLD_LINE; 745],
-            charges: [OLD; 2233],
-        }
-    }
+// Opens the book, tells, settles and allots hour 11 of day 1, and tells and settles hour 12.
+pub(crate) fn prepare(desk: &mut Desk) -> Result<(), Refusal> {
+    desk.open(Opening {
+        number: 7,
+        month: 5,
+        classes: &[0; 31],
+        first_day: 5,
+        buyers: 3,
+        resources: &[Registration {
+            kind: 1,
+            aggregator: 12,
+            customers: 1,
+        }],
+    })?;
+    desk.tell(on(1, 11), 3, &[1, 1])?;
+    desk.settle(&filed(0, on(1, 11), PLANNED, &[1]))?;
+    desk.allot(on(1, 11))?;
+    desk.tell(on(1, 12), 150_000_000, &[150_000_000, 0])?;
+    desk.settle(&filed(0, on(1, 12), PLANNED, &[1]))
+}
 
-    // Opens the book, tells, settles and allots hour 11 of day 1, and tells and settles hour 12.
-    pub(crate) fn prepare(&mut self) -> Result<(), Refusal> {
-        let Desk {
-            book,
-            lines,
-            charges,
-        } = self;
-        let opening = Opening {
-            number: 7,
-            month: 5,
-            classes: &[0; 31],
-            first_day: 5,
-            buyers: 3,
-            resources: &[Registration {
-                kind: 1,
-                aggregator: 12,
-                customers: 1,
-            }],
-        };
-        book.open(opening, lines, charges)?;
-        book.tell(lines, charges, on(1, 11), 3, &[1, 1])?;
-        book.settle(lines, charges, &filed(0, on(1, 11), PLANNED, &[1]))?;
-        book.allot(lines, charges, on(1, 11))?;
-        book.tell(lines, charges, on(1, 12), 150_000_000, &[150_000_000, 0])?;
-        book.settle(lines, charges, &filed(0, on(1, 12), PLANNED, &[1]))
-    }
-
-    // A desk so prepared.
-    pub(crate) fn prepared() -> Result<Desk, Refusal> {
-        let mut desk = Desk::new();
-        desk.prepare()?;
-        Ok(desk)
-    }
+// A desk so prepared.
+pub(crate) fn prepared() -> Result<Desk, Refusal> {
+    let mut desk = blank();
+    prepare(&mut desk)?;
+    Ok(desk)
 }
 
 // Reopens an hour, and finishes it at once.

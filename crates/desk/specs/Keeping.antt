@@ -1,13 +1,13 @@
--- What every call on a desk leaves to the slips that are out.
-use Rattle.std.specs.Prelude.{◌≢◌}
+-- The book of a desk, and what every call on a desk leaves to the slips that are out.
+use Rattle.std.specs.Prelude.{◌≢◌, ℕ}
 use Rattle.book.specs.State.{State, place}
 use Rattle.book.specs.Calls.{Slip}
 use Rattle.book.specs.Seen.{seen}
 use Rattle.book.specs.Slips.{Finishes}
-use Rattle.long_run.specs.declared.desk.Desk.{Desk}
+use Rattle.desk.specs.declared.Desk.{Desk}
 
 -- the book of a desk with its two lists
-abbrev pub on_desk : Desk → State
+abbrev pub on_desk : {l c : ℕ} → Desk l c → State
 on_desk d = seen d.book d.lines d.charges
 
 -- two slips are for different hours

@@ -1,2 +1,0 @@
-mod Granted
-mod Kept
