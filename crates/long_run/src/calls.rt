@@ -25,10 +25,7 @@ pub(crate) fn finish(desk: &mut Desk, slip: Slip)
     requires { Finishes (on_desk desk.old) (named_by slip) }
     ensures keeps { KeepsOthers (on_desk desk.old) (named_by slip) (on_desk desk.new) }
 {
-    match desk.offer(slip) {
-        Ok(()) => {}
-        Err(_refused) => unreachable(),
-    }
+    desk.offer(slip).unwrap();
 }
 
 // Tells energies over no lines.

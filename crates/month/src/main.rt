@@ -1,18 +1,24 @@
 // A month's book from its opening to the control totals: an hour is settled from meter readings, allotted, and corrected twice.
 #![tactic(auto)]
 
+ghost use Rattle.book.specs.Seen.{named_by};
+ghost use Rattle.book.specs.Slips.{Finishes};
+ghost use Rattle.desk.specs.Keeping.{on_desk};
+
 use baseline::method::Method;
 use baseline::ranked::Ranked;
 use baseline::source::BaselineSource;
-use book::book::Book;
 use book::reconcile::Reconciliation;
 use book::settle::Settling;
-use book::slip::RefusedSlip;
+use book::slip::Slip;
 use load::interval::IntervalRecord;
 use refusal::Refusal;
 use sample::{CLASSES, OPENING, PLANNED, SETTLED, loads};
 use std::io;
-use table::lines::{BuyerLine, ResourceLine};
+use table::lines::BuyerLine;
+
+// The lists of 31 days, one resource and three buyers.
+type Desk = desk::Desk<744, 2232>;
 
 // The settling of the month's one resource in its hour, over one source.
 fn settling<S: BaselineSource>(source: &S) -> Settling<'_, S, S> {
@@ -26,57 +32,40 @@ fn settling<S: BaselineSource>(source: &S) -> Settling<'_, S, S> {
     }
 }
 
+// Finishes the hour with a slip that is known to be good.
+fn finish(desk: &mut Desk, slip: Slip)
+    requires { Finishes (on_desk desk.old) (named_by slip) }
+{
+    desk.offer(slip).unwrap();
+}
+
 // Reopens the hour, tells other purchases, settles it anew, and finishes it.
-fn correct<S: BaselineSource>(
-    book: &mut Book,
-    lines: &mut [ResourceLine],
-    charges: &mut [BuyerLine],
-    others: &[u32],
-    source: &S,
-) -> Result<(), Refusal> {
-    let slip = book.reopen(lines, charges, SETTLED)?;
-    let told = book.tell(lines, charges, SETTLED, 4, others);
-    let settled = book.settle(lines, charges, &settling(source));
-    let finished = book.finish(lines, charges, slip);
-    match finished {
-        Ok(()) => {}
-        Err(_refused) => unreachable(),
-    }
+fn correct<S: BaselineSource>(desk: &mut Desk, others: &[u32], source: &S) -> Result<(), Refusal> {
+    let slip = desk.reopen(SETTLED)?;
+    let told = desk.tell(SETTLED, 4, others);
+    let settled = desk.settle(&settling(source));
+    finish(desk, slip);
     told?;
     settled
 }
 
 // Reopens the hour and finishes it as it was, with the slip laid aside in between.
-fn look_again(
-    book: &mut Book,
-    lines: &[ResourceLine],
-    charges: &mut [BuyerLine],
-) -> Result<(), Refusal> {
-    let slip = book.reopen(lines, charges, SETTLED)?;
+fn look_again(desk: &mut Desk) -> Result<(), Refusal> {
+    let slip = desk.reopen(SETTLED)?;
     let mut aside = Some(slip);
     let first = aside.take().unwrap();
-    let finished = book.finish(lines, charges, first);
+    finish(desk, first);
     match aside {
         Some(_other) => unreachable(),
-        None => {}
-    }
-    match finished {
-        Ok(()) => Ok(()),
-        Err(_refused) => unreachable(),
+        None => Ok(()),
     }
 }
 
 // Tells, settles, and allots the hour.
-fn allot<S: BaselineSource>(
-    book: &mut Book,
-    lines: &mut [ResourceLine],
-    charges: &mut [BuyerLine],
-    others: &[u32],
-    source: &S,
-) -> Result<(), Refusal> {
-    book.tell(lines, charges, SETTLED, 3, others)?;
-    book.settle(lines, charges, &settling(source))?;
-    book.allot(lines, charges, SETTLED)
+fn allot<S: BaselineSource>(desk: &mut Desk, others: &[u32], source: &S) -> Result<(), Refusal> {
+    desk.tell(SETTLED, 3, others)?;
+    desk.settle(&settling(source))?;
+    desk.allot(SETTLED)
 }
 
 // A source over what the meter read.
@@ -90,29 +79,15 @@ fn metered(loads: &[u32], method: Method) -> Ranked<IntervalRecord<'_>> {
 
 // The whole month, and what it comes to; the hour is corrected by another reading of the meter.
 fn run() -> Result<Reconciliation, Refusal> {
-    let mut book = Book::new();
-    let mut lines = [None; 744];
-    let mut charges = [BuyerLine::default(); 2232];
-    book.open(OPENING, &mut lines, &mut charges)?;
+    let mut desk = Desk::new(None, BuyerLine::default());
+    desk.open(OPENING)?;
     let method = "max45".parse()?;
     let first = loads(1_200_000);
     let again = loads(1_100_000);
-    allot(
-        &mut book,
-        &mut lines,
-        &mut charges,
-        &[1, 1],
-        &metered(&first, method),
-    )?;
-    correct(
-        &mut book,
-        &mut lines,
-        &mut charges,
-        &[1, 2],
-        &metered(&again, method),
-    )?;
-    look_again(&mut book, &lines, &mut charges)?;
-    book.reconcile(&lines, &charges)
+    allot(&mut desk, &[1, 1], &metered(&first, method))?;
+    correct(&mut desk, &[1, 2], &metered(&again, method))?;
+    look_again(&mut desk)?;
+    desk.reconcile()
 }
 
 fn main(rt: HostRuntime) -> io::Result<()> {

@@ -98,10 +98,8 @@ fn write_in_correction(
 ) -> Result<usize, Refusal> {
     let slip = book.reopen(lines, charges, MonthHour { day: 1, hour: 2 })?;
     let answer = write_sheet(book, lines, charges, buffer);
-    match book.finish(lines, charges, slip) {
-        Ok(()) => answer,
-        Err(_refused) => unreachable(),
-    }
+    book.finish(lines, charges, slip).unwrap();
+    answer
 }
 
 #[test]
