@@ -1,6 +1,7 @@
 // What a call comes to, and the noting of a case.
 use load::loads::DayClass;
 use refusal::{Cause, NoFigure, Refusal};
+use rule_numbers::{cause_listed, is_cause_listed, is_listed, refusal_listed};
 use std::fmt;
 
 // What comes of a call or a question.
@@ -34,6 +35,39 @@ impl fmt::Display for Outcome {
                 }
                 Ok(())
             }
+        }
+    }
+}
+
+// What a call should come to: a refusal and a cause are printed by their numbers in the rules, not by the library's.
+#[derive(Clone, Copy)]
+struct Expected(Outcome);
+
+impl fmt::Display for Expected {
+    fn fmt<W: fmt::Write>(&self, f: &mut fmt::Formatter<W>) -> fmt::Result {
+        match self.0 {
+            Outcome::Because(cause) => write!(f, "cause {}", cause_listed(cause)),
+            Outcome::Refused(refusal) => {
+                write!(f, "refusal {}", refusal_listed(refusal))?;
+                if let Refusal::Scheduled(lacking) | Refusal::Mandatory(lacking) = refusal {
+                    let NoFigure { customer, cause } = lacking;
+                    write!(f, ", customer {customer}, cause {}", cause_listed(cause))?;
+                }
+                Ok(())
+            }
+            outcome => write!(f, "{outcome}"),
+        }
+    }
+}
+
+impl Outcome {
+    // Whether the library tells a refusal and a cause by their numbers in the rules.
+    // Stays: what comes is held against the rules' own numbers, which no conversion of the library's may stand in for.
+    fn is_told(self) -> bool {
+        match self {
+            Outcome::Because(cause) => is_cause_listed(cause),
+            Outcome::Refused(refusal) => is_listed(refusal),
+            _ => true,
         }
     }
 }
@@ -118,9 +152,9 @@ impl Tally<'_> {
     ) -> anyhow::Result<()> {
         let expected: Outcome = expected.into();
         let got: Outcome = got.into();
-        println!(self.rt; "{what}: expected {expected}, got {got}")?;
+        println!(self.rt; "{what}: expected {}, got {got}", Expected(expected))?;
         self.cases = self.cases.saturating_add(1);
-        if expected != got {
+        if expected != got || !got.is_told() {
             self.differences = self.differences.saturating_add(1);
         }
         Ok(())

@@ -1,5 +1,6 @@
 // Counts of calls, of refusals by their number, and of differences.
 use refusal::Refusal;
+use rule_numbers::is_listed;
 use std::fmt;
 
 // The calls as they are counted.
@@ -72,6 +73,11 @@ fn add_at(counts: &mut [u32], place: usize) {
     }
 }
 
+// Whether a call answered what it should, a refusal told by its numbers in the rules.
+pub fn agrees<T: PartialEq + Copy>(expected: Result<T, Refusal>, got: Result<T, Refusal>) -> bool {
+    expected == got && got.err().is_none_or(is_listed)
+}
+
 impl Counts {
     // Nothing counted yet.
     pub fn new() -> Counts {
@@ -96,7 +102,7 @@ impl Counts {
             Ok(_) => self.granted = self.granted.saturating_add(1),
             Err(refusal) => add_at(&mut self.refusals, refusal.number() as usize),
         }
-        self.agree(expected == got);
+        self.agree(agrees(expected, got));
     }
 
     // Counts a comparison of what a call answers.

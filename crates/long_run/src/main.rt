@@ -113,9 +113,9 @@ fn print_totals(rt: &HostRuntime, trial: &Trial) -> anyhow::Result<()> {
 fn main(rt: HostRuntime) -> anyhow::Result<()> {
     let mut trial = begin();
     for number in 0..TURNS {
-        trial.turn(number, rt.alloc())?;
+        trial.turn(number);
     }
-    trial.compare_month(rt.alloc())?;
+    trial.compare_month();
     print_counts(&rt, &trial.audit.counts)?;
     print_totals(&rt, &trial)?;
     println!(rt; "differences {}", trial.audit.counts.differences)?;

@@ -1,11 +1,15 @@
 // The evening sheet as the plain reckoning writes it.
 use crate::ledger::{HourState, Ledger};
 use crate::resources::{MONTH, RESOURCES};
-use std::alloc::{AllocError, Global};
+use arrayvec::ArrayString;
+use std::fmt;
+use std::fmt::Write;
 
-// The sheet of book 7.
-pub fn text_of(ledger: &Ledger, alloc: Global) -> Result<String, AllocError> {
-    let mut text = String::new(alloc);
+// A text of at most 600 bytes.
+pub type Text = ArrayString<600>;
+
+// Writes the sheet of book 7 behind a text.
+fn write_text(ledger: &Ledger, text: &mut Text) -> fmt::Result {
     writeln!(text, "book=7")?;
     writeln!(text, "month={MONTH}")?;
     writeln!(text, "allotted={}", ledger.hours_in(HourState::Allotted))?;
@@ -27,7 +31,14 @@ pub fn text_of(ledger: &Ledger, alloc: Global) -> Result<String, AllocError> {
         writeln!(text, "charged={}", sums.due)?;
         writeln!(text, "refunded={}", sums.back)?;
     }
-    Ok(text)
+    Ok(())
+}
+
+// The sheet of book 7; one that had no room would be cut short, and so differ.
+pub fn text_of(ledger: &Ledger) -> Text {
+    let mut text = Text::new();
+    let _whole = write_text(ledger, &mut text);
+    text
 }
 
 // Whether a buffer holds a text, and then what it held before.

@@ -1,6 +1,6 @@
 // A source of any sort.
 use crate::meters::Meters;
-use crate::plain::{Choice, Sort};
+use crate::plain::{Sort, Way};
 use baseline::adjusted::Adjusted;
 use baseline::filed::FiledSource;
 use baseline::method::Method;
@@ -12,15 +12,15 @@ use load::places::CustomerHour;
 use load::register::RegisterRecord;
 use refusal::{Cause, Refusal};
 
-// A source of each sort.
+// A source of each sort; three stand on a record or a source that is lent to them.
 #[derive(Drop)]
 pub enum Source<'a> {
     Intervals(Ranked<IntervalRecord<'a>>),
-    LeftOutIntervals(Ranked<LeftOut<'a, IntervalRecord<'a>>>),
+    LeftOutIntervals(Ranked<LeftOut<'a, &'a IntervalRecord<'a>>>),
     Registers(Ranked<RegisterRecord<'a>>),
-    AdjustedRegisters(Adjusted<'a, Ranked<LeftOut<'a, RegisterRecord<'a>>>>),
+    AdjustedRegisters(Adjusted<'a, Ranked<LeftOut<'a, &'a RegisterRecord<'a>>>>),
     Filed(FiledSource<'a>),
-    AdjustedIntervals(Adjusted<'a, Ranked<IntervalRecord<'a>>>),
+    AdjustedIntervals(Adjusted<'a, &'a Ranked<IntervalRecord<'a>>>),
     AdjustedFiled(Adjusted<'a, FiledSource<'a>>),
 }
 
@@ -55,6 +55,16 @@ impl BaselineSource for Source<'_> {
     fn baseline(&self, asked: CustomerHour) -> Result<i32, Cause> {
         answer!(self, held => held.baseline(asked))
     }
+}
+
+// What a source by a method stands on: the meters, their two records, and the ranked source over the intervals.
+#[derive(Drop)]
+pub struct Base<'a> {
+    meters: &'a Meters,
+    method: Method,
+    intervals: IntervalRecord<'a>,
+    registers: RegisterRecord<'a>,
+    ranked: Ranked<IntervalRecord<'a>>,
 }
 
 impl Meters {
@@ -98,25 +108,37 @@ impl Meters {
         }
     }
 
-    // The source of a choice.
-    pub fn source(&self, choice: Choice) -> Result<Source<'_>, Refusal> {
-        let method = choice.way.text.parse::<Method>()?;
-        Ok(match choice.sort {
-            Sort::Intervals => Source::Intervals(Ranked::new(self.intervals(), method)),
-            Sort::LeftOutIntervals => {
-                Source::LeftOutIntervals(Ranked::new(self.standing(self.intervals()), method))
-            }
-            Sort::Registers => Source::Registers(Ranked::new(self.registers(), method)),
-            Sort::AdjustedRegisters => {
-                let ranked = Ranked::new(self.standing(self.registers()), method);
-                Source::AdjustedRegisters(self.adjusted(ranked))
-            }
-            Sort::Filed => Source::Filed(self.filings()),
-            Sort::AdjustedIntervals => {
-                let ranked = Ranked::new(self.intervals(), method);
-                Source::AdjustedIntervals(self.adjusted(ranked))
-            }
-            Sort::AdjustedFiled => Source::AdjustedFiled(self.adjusted(self.filings())),
+    // What the sources of a way stand on.
+    pub fn base(&self, way: Way) -> Result<Base<'_>, Refusal> {
+        let method = way.text.parse::<Method>()?;
+        Ok(Base {
+            meters: self,
+            method,
+            intervals: self.intervals(),
+            registers: self.registers(),
+            ranked: Ranked::new(self.intervals(), method),
         })
+    }
+}
+
+impl<'a> Base<'a> {
+    // The source of a sort.
+    pub fn source(&'a self, sort: Sort) -> Source<'a> {
+        let meters = self.meters;
+        match sort {
+            Sort::Intervals => Source::Intervals(Ranked::new(meters.intervals(), self.method)),
+            Sort::LeftOutIntervals => {
+                let standing = meters.standing(&self.intervals);
+                Source::LeftOutIntervals(Ranked::new(standing, self.method))
+            }
+            Sort::Registers => Source::Registers(Ranked::new(meters.registers(), self.method)),
+            Sort::AdjustedRegisters => {
+                let ranked = Ranked::new(meters.standing(&self.registers), self.method);
+                Source::AdjustedRegisters(meters.adjusted(ranked))
+            }
+            Sort::Filed => Source::Filed(meters.filings()),
+            Sort::AdjustedIntervals => Source::AdjustedIntervals(meters.adjusted(&self.ranked)),
+            Sort::AdjustedFiled => Source::AdjustedFiled(meters.adjusted(meters.filings())),
+        }
     }
 }

@@ -15,7 +15,6 @@ use book::month_hour::MonthHour;
 use book::settle::Settling;
 use book::slip::{RefusedSlip, Slip};
 use refusal::Refusal;
-use std::alloc::{AllocError, Global};
 use table::lines::BuyerLine;
 
 // The desk, another desk whose book has another number, what the first should hold, and the hour being corrected.
@@ -69,15 +68,15 @@ impl Trial {
     fn settle(&mut self, settling: &Settling<Choice, Choice>) -> Result<(), Refusal>
         ensures keeps { Keeps (on_desk self.old.desk) (on_desk self.new.desk) }
     {
-        let scheduled = self.meters.source(*settling.scheduled)?;
-        let mandatory = self.meters.source(*settling.mandatory)?;
+        let scheduled = self.meters.base(settling.scheduled.way)?;
+        let mandatory = self.meters.base(settling.mandatory.way)?;
         self.desk.settle(&Settling {
             resource: settling.resource,
             at: settling.at,
             terms: settling.terms,
             marks: settling.marks,
-            scheduled: &scheduled,
-            mandatory: &mandatory,
+            scheduled: &scheduled.source(settling.scheduled.sort),
+            mandatory: &mandatory.source(settling.mandatory.sort),
         })
     }
 
@@ -229,12 +228,12 @@ impl Trial {
     }
 
     // Compares the month.
-    pub fn compare_month(&mut self, alloc: Global) -> Result<(), AllocError> {
-        self.audit.compare_month(&self.desk, alloc)
+    pub fn compare_month(&mut self) {
+        self.audit.compare_month(&self.desk);
     }
 
     // One turn of the trial.
-    pub fn turn(&mut self, number: u32, alloc: Global) -> Result<(), AllocError> {
+    pub fn turn(&mut self, number: u32) {
         match number % 20 {
             0 | 10 => self.correct(),
             5 => try_open(&mut self.audit.counts, &mut self.random),
@@ -242,8 +241,7 @@ impl Trial {
             _ => self.one_call(),
         }
         if number % 100 == 0 {
-            self.compare_month(alloc)?;
+            self.compare_month();
         }
-        Ok(())
     }
 }
