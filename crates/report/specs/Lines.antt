@@ -1,5 +1,5 @@
 -- What the numbers of a line must be, and what they say.
-use Rattle.std.specs.Prelude.{ℕ, suc, ◌-◌, Bool, cond, ◌&&◌, ◌||◌, List, [], ◌∷◌, length, drop, replicate, Some, None, Ok, Err, fold, sum, Option, Result, ◌==◌, nat_le, nat_lt, slice_index, slice_set}
+use Rattle.std.specs.Prelude.{ℕ, suc, ◌+◌, ◌-◌, Bool, cond, ◌&&◌, ◌||◌, List, [], ◌∷◌, length, drop, replicate, Some, None, Ok, Err, fold, sum, Option, Result, ◌==◌, nat_le, nat_lt, slice_index, slice_set}
 use Rattle.load.specs.Meaning.{is_customer, is_day, is_hour}
 use Rattle.load.specs.Records.{interval_place, register_place}
 use Rattle.settlement.specs.Kinds.{kind_numbered}
@@ -97,9 +97,9 @@ settling_in ns =
     (cond (nat_lt 25 (length ns)) (Err TooManyNumbers)
     (settling_from ns (kind_numbered (slice_index ns 1)) (mark_in (slice_index ns 5)) (mark_in (slice_index ns 6)) (marks_written 0 (drop 9 ns) (replicate 16 0))))
 
--- the retailer's purchase, then those of the others
+-- the retailer's purchase, then those of the others, 0 where there is no buyer
 abbrev pub purchased : ℕ → List ℕ → Purchases
-purchased rest others = record { bought = record { items = rest ∷ others } }
+purchased rest others = record { bought = written 1 others (slice_set (replicate 8 0) 0 rest); buyers = length others + 1 }
 
 -- a total, then what each of at most 7 buyers but the retailer purchased of it; the rest is the retailer's
 abbrev pub purchases_in : List ℕ → Result Purchases Fault

@@ -1,6 +1,6 @@
 // What a request holds, for those who report on it.
 ghost use Rattle.std.specs.Prelude.{◌≡◌, ◌≤◌};
-ghost use Rattle.std.specs.Option.{option_map, unwrap_or};
+ghost use Rattle.std.specs.Option.{unwrap_or};
 
 use crate::hour::{Purchases, Settling};
 use crate::meter::Meter;
@@ -44,10 +44,10 @@ impl Request {
     }
 
     // What the buyers purchased in that hour, if the text says so.
-    pub fn purchases(&self) -> Option<&Purchases>
-        ensures value { option_map (λ x. x.now) result ≡ self.now.purchases }
+    pub fn purchases(&self) -> Option<Purchases>
+        ensures value { result ≡ self.now.purchases }
     {
-        self.purchases.as_ref()
+        self.purchases
     }
 
     // The numbers as hourly loads.

@@ -3,7 +3,6 @@ ghost use Rattle.std.specs.Prelude.{◌≡◌};
 ghost use Rattle.settlement.specs.Settle.{settled};
 ghost use Rattle.share.specs.Shares.{shared};
 
-use arrayvec::ArrayVec;
 use baseline::source::BaselineSource;
 use load::loads::DayClass;
 use refusal::Refusal;
@@ -21,9 +20,11 @@ pub struct Settling {
 }
 
 // What each buyer purchased in the hour, in kWh, the retailer first.
-#[derive(Clone, Drop)]
+// Stays: purchases are copied out of a request, and `ArrayVec` is no plain value.
+#[derive(Clone, Copy)]
 pub struct Purchases {
-    pub bought: ArrayVec<u32, 8>,
+    pub bought: [u32; 8],
+    pub buyers: usize,
 }
 
 impl Settling {
@@ -57,8 +58,8 @@ impl Settling {
 impl Purchases {
     // Each buyer's share of an amount of won, by the purchases.
     pub fn shares_of(&self, amount: i64) -> Option<[i64; 16]>
-        ensures value { result ≡ shared amount self.now.bought.items }
+        ensures value { result ≡ shared amount self.now.bought }
     {
-        share_out(amount, self.bought.as_slice())
+        share_out(amount, &self.bought)
     }
 }

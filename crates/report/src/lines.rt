@@ -5,7 +5,6 @@ ghost use Rattle.report.specs.Lines.{only_number, days_marked, start_marked, wri
 use crate::fault::Fault;
 use crate::hour::{Purchases, Settling};
 use crate::meter::Meter;
-use arrayvec::ArrayVec;
 use load::places::{CustomerHour, is_customer_day, is_hour};
 use settlement::terms::{Kind, Terms};
 
@@ -190,10 +189,13 @@ fn purchased(rest: u32, others: &[u32]) -> Purchases
     requires few { length others.now ≤ 7 }
     ensures value { result ≡ purchased rest others.now }
 {
-    let mut bought = ArrayVec::new();
-    bought.push(rest);
-    bought.try_extend_from_slice(others).unwrap();
-    Purchases { bought }
+    let mut bought = [0; 8];
+    bought[0] = rest;
+    bought[1..1 + others.len()].copy_from_slice(others);
+    Purchases {
+        bought,
+        buyers: others.len() + 1,
+    }
 }
 
 // A total, then what each buyer but the retailer purchased of it; the rest is the retailer's.

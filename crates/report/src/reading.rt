@@ -98,13 +98,15 @@ impl Request {
     fn read_lines(&mut self, text: &str) -> Result<(), BadLine>
         ensures value { Reads result (read_from self.old text.now) self.new }
     {
+        let mut lines = 0;
         for (k, line) in text.split_terminator('\n').enumerate() {
+            lines = k + 1;
             self.take_line(line)
-                .map_err(|fault| BadLine { line: k + 1, fault })?;
+                .map_err(|fault| BadLine { line: lines, fault })?;
         }
         if self.day.is_none() {
             return Err(BadLine {
-                line: text.split_terminator('\n').count(),
+                line: lines,
                 fault: Fault::NoDay,
             });
         }

@@ -99,7 +99,7 @@ fn an_hour(rt: HostRuntime) -> Result<(), Fail> {
         [1, 0, 1, 0, 0, 0, 0, 0, 0, 0, 0, 0, 0, 0, 0, 0]
     );
     let purchases = request.purchases().ok_or("no purchases")?;
-    assert_eq!(rt; purchases.bought.len(), 3);
-    assert_eq!(rt; purchases.bought.as_slice(), [35, 40, 25].as_slice());
+    assert_eq!(rt; purchases.buyers, 3);
+    assert_eq!(rt; purchases.bought, [35, 40, 25, 0, 0, 0, 0, 0]);
     Ok(())
 }

@@ -72,12 +72,12 @@ fn print_refusal(rt: &HostRuntime, refusal: Refusal) -> Result<()> {
 }
 
 // Prints what each buyer is charged and refunded for a line.
-fn print_shares(rt: &HostRuntime, line: &Line, purchases: &Purchases) -> Result<()> {
+fn print_shares(rt: &HostRuntime, line: &Line, purchases: Purchases) -> Result<()> {
     let charges = purchases.shares_of(paid_for(line));
     let refunds = purchases.shares_of(i64::from(line.fined));
     if let (Some(charges), Some(refunds)) = (charges, refunds) {
         let shares = charges.iter().zip(&refunds);
-        for (buyer, (charge, refund)) in shares.take(purchases.bought.len()).enumerate() {
+        for (buyer, (charge, refund)) in shares.take(purchases.buyers).enumerate() {
             println!(rt; "buyer={buyer} charge={charge} refund={refund}")?;
         }
     }

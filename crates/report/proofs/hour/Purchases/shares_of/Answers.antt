@@ -7,4 +7,4 @@ use Rattle.report.proofs.hour.Purchases.shares_of.Goals as goal
 pub returns : goal.returns
 returns c =
     let fits : SFits w64 c.args.amount = search rules in
-    record { value = c.share_out.ensures.value ∙ ap (λ (z : ℤ). shared z c.as_slice.result.now) (to_z-of_z w64 c.args.amount fits) ∙ ap (shared c.args.amount) c.as_slice.ensures.value }
+    record { value = c.share_out.ensures.value ∙ ap (λ (z : ℤ). shared z c.args.self.now.bought) (to_z-of_z w64 c.args.amount fits) }

@@ -5,4 +5,5 @@ use Rattle.report.proofs.request.Request.read_lines.Given as goal
 
 abbrev pub invariant-loop-k : goal.invariant-loop-k
 invariant-loop-k l =
-    lines_read (length l.yielded) (Ok l.self) (drop (length l.yielded) (lines_of l.text)) ≡ lines_read 0 (Ok l.initial.self) (lines_of l.text)
+    (l.lines ≡ length l.yielded)
+    × (lines_read (length l.yielded) (Ok l.self) (drop (length l.yielded) (lines_of l.text)) ≡ lines_read 0 (Ok l.initial.self) (lines_of l.text))
