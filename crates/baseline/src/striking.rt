@@ -9,7 +9,12 @@ use crate::reference::{Reference, References};
 fn rank_of(days: &[Reference], this: &Reference) -> usize
     ensures value { result ≡ rank days.now this.now }
 {
-    days.iter().filter(|x| **x < *this).count()
+    // Stays: `filter(..).count()` takes a good third longer here, and over `map(..).sum()` it stays open that the sum fits.
+    let mut lower_ones = 0;
+    for x in days {
+        lower_ones += usize::from(*x < *this);
+    }
+    lower_ones
 }
 
 impl Method {
