@@ -1,7 +1,7 @@
 // What a call comes to, and the noting of a case.
 use load::loads::DayClass;
 use refusal::{Cause, NoFigure, Refusal};
-use rule_numbers::{cause_listed, is_cause_listed, is_listed, refusal_listed};
+use rule_numbers::{cause_listed, refusal_listed};
 use std::fmt;
 
 // What comes of a call or a question.
@@ -65,8 +65,16 @@ impl Outcome {
     // Stays: what comes is held against the rules' own numbers, which no conversion of the library's may stand in for.
     fn is_told(self) -> bool {
         match self {
-            Outcome::Because(cause) => is_cause_listed(cause),
-            Outcome::Refused(refusal) => is_listed(refusal),
+            Outcome::Because(cause) => cause.number() == cause_listed(cause),
+            Outcome::Refused(refusal) => {
+                let numbered = refusal.number() == refusal_listed(refusal);
+                match refusal {
+                    Refusal::Scheduled(lacking) | Refusal::Mandatory(lacking) => {
+                        numbered && lacking.cause.number() == cause_listed(lacking.cause)
+                    }
+                    _ => numbered,
+                }
+            }
             _ => true,
         }
     }

@@ -1,6 +1,6 @@
 // Counts of calls, of refusals by their number, and of differences.
 use refusal::Refusal;
-use rule_numbers::is_listed;
+use rule_numbers::{cause_listed, refusal_listed};
 use std::fmt;
 
 // The calls as they are counted.
@@ -73,9 +73,20 @@ fn add_at(counts: &mut [u32], place: usize) {
     }
 }
 
+// Whether the library tells a refusal, and the cause in it, by their numbers in the rules.
+fn is_told(refusal: Refusal) -> bool {
+    let numbered = refusal.number() == refusal_listed(refusal);
+    match refusal {
+        Refusal::Scheduled(lacking) | Refusal::Mandatory(lacking) => {
+            numbered && lacking.cause.number() == cause_listed(lacking.cause)
+        }
+        _ => numbered,
+    }
+}
+
 // Whether a call answered what it should, a refusal told by its numbers in the rules.
 pub fn agrees<T: PartialEq + Copy>(expected: Result<T, Refusal>, got: Result<T, Refusal>) -> bool {
-    expected == got && got.err().is_none_or(is_listed)
+    expected == got && got.err().is_none_or(is_told)
 }
 
 impl Counts {

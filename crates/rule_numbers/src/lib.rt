@@ -1,7 +1,7 @@
 // The numbers under which the rules list refusals and causes, written down apart from the library's own, so that a program can hold what the library tells against them.
 #![tactic(auto)]
 
-ghost use Rattle.std.specs.Prelude.{◌≡◌, true};
+ghost use Rattle.std.specs.Prelude.{◌≡◌};
 ghost use Rattle.refusal.specs.Numbers.{cause_number, refusal_number};
 
 use refusal::{Cause, Refusal};
@@ -50,25 +50,5 @@ pub fn refusal_listed(refusal: Refusal) -> u32
         Refusal::NoLine => 28,
         Refusal::NoSuchBuyer => 29,
         Refusal::ShortBuffer => 30,
-    }
-}
-
-// Whether the library tells a cause by its number in the rules.
-pub fn is_cause_listed(cause: Cause) -> bool
-    ensures value { result ≡ true }
-{
-    cause.number() == cause_listed(cause)
-}
-
-// Whether the library tells a refusal, and the cause in it, by their numbers in the rules.
-pub fn is_listed(refusal: Refusal) -> bool
-    ensures value { result ≡ true }
-{
-    let told = refusal.number() == refusal_listed(refusal);
-    match refusal {
-        Refusal::Scheduled(lacking) | Refusal::Mandatory(lacking) => {
-            told && is_cause_listed(lacking.cause)
-        }
-        _ => told,
     }
 }
